@@ -6,7 +6,7 @@ ghost use Rattle.refusal.specs.Text.{station-text, refusal-text};
 use std::fmt;
 
 // The part of the checker that refuses.
-#[derive(Clone, Copy, PartialEq, Eq, Debug)]
+#[derive(Clone, Copy)]
 pub enum Station {
     File,
     Opening,
@@ -18,7 +18,7 @@ pub enum Station {
 }
 
 // Why a call was refused; docs/refusals.md has the whole table.
-#[derive(Clone, Copy, PartialEq, Eq, Debug)]
+#[derive(Clone, Copy)]
 pub enum Reason {
     // the file: over 65,536 bytes, or no mark
     NoRoundFile,
@@ -58,7 +58,7 @@ pub enum Reason {
 }
 
 // A refusal: why, and at which place of the input.
-#[derive(Clone, Copy, PartialEq, Eq, Debug)]
+#[derive(Clone, Copy)]
 pub struct Refusal {
     pub reason: Reason,
     pub place: usize,
