@@ -36,7 +36,6 @@ infixl 60 _⊗_
 infix 65 ⊝_
 infixl 50 _·_
 infixl 70 _^_
-
 -- A hypothesis, and the exponent to which it is raised.
 pub data Hypothesis : Type 0 where
   given : Exponent → Product → Product → Hypothesis
@@ -238,6 +237,7 @@ module _ {P : Type 0} {G : Operations P} (laws : GroupLaws G) where
     where
       X : P
       X = signed s (under ρ (at (G .one) γ g) m)
+
       go : (b : Bool) → (T b → G .times X (term-value ρ γ t) ≡ G .one) → total ρ γ (join s m g p) ≡ G .times X (total ρ γ p)
           → total ρ γ (elim b [ true ↦ p | false ↦ t ∷ join s m g p ]) ≡ G .times X (G .times (term-value ρ γ t) (total ρ γ p))
       go true h ih = sym (sym (laws .associative X (term-value ρ γ t) (total ρ γ p)) ∙ (ap (λ u. G .times u (total ρ γ p)) (h tt) ∙ laws .neutral (total ρ γ p)))
@@ -261,8 +261,8 @@ module _ {P : Type 0} {G : Operations P} (laws : GroupLaws G) where
       ∙ (ap (G .times (signed s (under ρ xa m))) (pushExponent-is ρ γ b k x h s m rest)
       ∙ (sym (laws .associative (signed s (under ρ xa m)) (signed s (under ρ xb m)) (total ρ γ rest))
       ∙ ap (λ u. G .times u (total ρ γ rest))
-        (sym (signed-times s (under ρ xa m) (under ρ xb m))
-        ∙ ap (signed s) (sym (under-times ρ m xa xb) ∙ ap (λ u. under ρ u m) (sym (power-add laws x (number (G .order) ρ a) (number (G .order) ρ b)))))))
+      (sym (signed-times s (under ρ xa m) (under ρ xb m))
+      ∙ ap (signed s) (sym (under-times ρ m xa xb) ∙ ap (λ u. under ρ u m) (sym (power-add laws x (number (G .order) ρ a) (number (G .order) ρ b)))))))
   pushExponent-is ρ γ (a ⊗ b) k x h s m rest =
       pushExponent-is ρ γ a (pushExponent b k) (power G x (number (G .order) ρ b)) (pushExponent-is ρ γ b k x h) s m rest
       ∙ ap (λ u. G .times (signed s (under ρ u m)) (total ρ γ rest)) (power-swap laws x (number (G .order) ρ b) (number (G .order) ρ a) ∙ power-mul laws x (number (G .order) ρ a) (number (G .order) ρ b))
@@ -270,8 +270,8 @@ module _ {P : Type 0} {G : Operations P} (laws : GroupLaws G) where
       let xa = power G x (number (G .order) ρ a) in
       pushExponent-is ρ γ a k x h (not s) m rest
       ∙ ap (λ u. G .times u (total ρ γ rest))
-        (signed-not s (under ρ xa m)
-        ∙ ap (signed s) (sym (under-inverse ρ m xa) ∙ ap (λ u. under ρ u m) (sym (power-opposite x (number (G .order) ρ a)))))
+      (signed-not s (under ρ xa m)
+      ∙ ap (signed s) (sym (under-inverse ρ m xa) ∙ ap (λ u. under ρ u m) (sym (power-opposite x (number (G .order) ρ a)))))
 
   push-is : (ρ : List ℕ) (γ : List P) (x : Product) → Puts ρ γ (push x) (value G ρ γ x)
   push-is ρ γ (pt g) s m rest = join-is ρ γ s m g rest
@@ -306,6 +306,7 @@ module _ {P : Type 0} {G : Operations P} (laws : GroupLaws G) where
     where
       Y : P
       Y = power G (G .times (value G ρ γ l) (G .inverse (value G ρ γ r))) (number (G .order) ρ c)
+
       drop-it : G .times (value G ρ γ x) (G .inverse Y) ≡ G .one → value G ρ γ x ≡ G .one
       drop-it k =
           same-of-quotient (value G ρ γ x) Y k

@@ -6,7 +6,8 @@ ghost use Rattle.refusal.specs.declared.Reason.the-variants.{KeyIsOne};
 ghost use Rattle.group.specs.Operations.{power};
 ghost use Rattle.elgamal.specs.Ciphertexts.{meaning, encrypted, reencrypted, multiplied, plaintext, Carries, SamePlaintext, Joins, Multiplies};
 use group::Group;
-use refusal::{Reason, Refusal};
+use refusal::Reason;
+use refusal::Refusal;
 
 // A pair of elements of one group.
 #[derive(Clone, Copy)]
@@ -16,7 +17,11 @@ pub struct Ciphertext<E> {
 }
 
 // The public key of a private one; the one is refused, at the place that the caller names.
-pub fn public_key<G: Group>(g: &G, private: G::Exponent, place: usize) -> Result<G::Element, Refusal>
+pub fn public_key<G: Group>(
+    g: &G,
+    private: G::Exponent,
+    place: usize,
+) -> Result<G::Element, Refusal>
     ensures { λ r. ⌜ Cases r (λ y. (G·Group .point y ≡ power (G·Group .operations) (G·Group .operations .base) (Exponent·Exponent .value private)) × (G·Group .point y ≡ G·Group .operations .one → ⊥)) (λ f. (f ≡ refused-at KeyIsOne place) × (power (G·Group .operations) (G·Group .operations .base) (Exponent·Exponent .value private) ≡ G·Group .operations .one)) ⌝ }
 {
     let key = g.raise(g.generator(), private);
@@ -27,7 +32,12 @@ pub fn public_key<G: Group>(g: &G, private: G::Exponent, place: usize) -> Result
 }
 
 // The message, encrypted under the key by gamma.
-pub fn encrypt<G: Group>(g: &G, key: G::Element, message: G::Element, gamma: G::Exponent) -> Ciphertext<G::Element>
+pub fn encrypt<G: Group>(
+    g: &G,
+    key: G::Element,
+    message: G::Element,
+    gamma: G::Exponent,
+) -> Ciphertext<G::Element>
     ensures is { λ r. ⌜ meaning (G·Group .point) r ≡ encrypted (G·Group .operations) (G·Group .point key) (G·Group .point message) (Exponent·Exponent .value gamma) ⌝ }
     ensures carries { λ r. ⌜ Carries (G·Group .operations) (G·Group .point key) (meaning (G·Group .point) r) (G·Group .point message) ⌝ }
 {
@@ -38,7 +48,12 @@ pub fn encrypt<G: Group>(g: &G, key: G::Element, message: G::Element, gamma: G::
 }
 
 // The ciphertext, re-encrypted under the key by r.
-pub fn reencrypt<G: Group>(g: &G, key: G::Element, c: Ciphertext<G::Element>, r: G::Exponent) -> Ciphertext<G::Element>
+pub fn reencrypt<G: Group>(
+    g: &G,
+    key: G::Element,
+    c: Ciphertext<G::Element>,
+    r: G::Exponent,
+) -> Ciphertext<G::Element>
     ensures is { λ d. ⌜ meaning (G·Group .point) d ≡ reencrypted (G·Group .operations) (G·Group .point key) (meaning (G·Group .point) c) (Exponent·Exponent .value r) ⌝ }
     ensures keeps { λ d. ⌜ SamePlaintext (G·Group .operations) (G·Group .point key) (meaning (G·Group .point) d) (meaning (G·Group .point) c) ⌝ }
     ensures joins { λ d. ⌜ Joins (G·Group .operations) (G·Group .point key) (meaning (G·Group .point) c) (meaning (G·Group .point) d) (Exponent·Exponent .value r) ⌝ }
@@ -50,7 +65,11 @@ pub fn reencrypt<G: Group>(g: &G, key: G::Element, c: Ciphertext<G::Element>, r:
 }
 
 // Two ciphertexts, multiplied part by part.
-pub fn multiply<G: Group>(g: &G, c: Ciphertext<G::Element>, d: Ciphertext<G::Element>) -> Ciphertext<G::Element>
+pub fn multiply<G: Group>(
+    g: &G,
+    c: Ciphertext<G::Element>,
+    d: Ciphertext<G::Element>,
+) -> Ciphertext<G::Element>
     ensures is { λ r. ⌜ meaning (G·Group .point) r ≡ multiplied (G·Group .operations) (meaning (G·Group .point) c) (meaning (G·Group .point) d) ⌝ }
     ensures multiplies { λ r. ⌜ Multiplies (G·Group .operations) (meaning (G·Group .point) c) (meaning (G·Group .point) d) ⌝ }
 {

@@ -8,7 +8,7 @@ use Rattle.group.specs.Codes.{four-bytes}
 
 -- four bytes are those of the number that they spell
 pub spelt : (l : List ℕ) (n : ℕ) → length l ≡ 4 → ((i : ℕ) → getD l i 0 < 256)
-  → n ≡ getD l 0 0 * 16777216 + getD l 1 0 * 65536 + getD l 2 0 * 256 + getD l 3 0 → four-bytes n ≡ l
+    → n ≡ getD l 0 0 * 16777216 + getD l 1 0 * 65536 + getD l 2 0 * 256 + getD l 3 0 → four-bytes n ≡ l
 spelt [] n h s e = absurd (omega arith)
 spelt (a ∷ []) n h s e = absurd (omega arith)
 spelt (a ∷ b ∷ []) n h s e = absurd (omega arith)

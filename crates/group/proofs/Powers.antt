@@ -60,10 +60,10 @@ module _ {P : Type 0} {G : Operations P} (laws : GroupLaws G) where
   power-mod x n =
       let q = G .order in
       sym (
-        ap (power G x) (sym (div-add-mod n q))
-        ∙ power-add x (q * (n / q)) (n % q)
-        ∙ ap (λ y. G .times y (power G x (n % q))) (sym (power-mul x q (n / q)) ∙ ap (λ y. power G y (n / q)) (laws .whole-power x) ∙ power-of-one (n / q))
-        ∙ laws .neutral (power G x (n % q)))
+      ap (power G x) (sym (div-add-mod n q))
+      ∙ power-add x (q * (n / q)) (n % q)
+      ∙ ap (λ y. G .times y (power G x (n % q))) (sym (power-mul x q (n / q)) ∙ ap (λ y. power G y (n / q)) (laws .whole-power x) ∙ power-of-one (n / q))
+      ∙ laws .neutral (power G x (n % q)))
 
   -- what undoes x is its inverse
   pub inverse-only : (x y : P) → G .times x y ≡ G .one → y ≡ G .inverse x
@@ -91,14 +91,14 @@ module _ {P : Type 0} {G : Operations P} (laws : GroupLaws G) where
       ap (G .times x) (power-times x x (n / 2) ∙ sym (power-add x (n / 2) (n / 2))) ∙ sym (power-suc x (n / 2 + n / 2)) ∙ ap (power G x) e
 
   pub squared-even : {done square done' square' all : P} (n : ℕ) → (n % 2 ≡ 1 → ⊥) → done' ≡ done → square' ≡ G .times square square
-    → G .times done (power G square n) ≡ all → G .times done' (power G square' (n / 2)) ≡ all
+      → G .times done (power G square n) ≡ all → G .times done' (power G square' (n / 2)) ≡ all
   squared-even {done} {square} {done'} {square'} n h ed es before =
       ap (λ y. G .times y (power G square' (n / 2))) ed
       ∙ ap (λ y. G .times done (power G y (n / 2))) es
       ∙ ap (G .times done) (even-power square n h) ∙ before
 
   pub squared-odd : {done square done' square' all : P} (n : ℕ) → n % 2 ≡ 1 → done' ≡ G .times done square → square' ≡ G .times square square
-    → G .times done (power G square n) ≡ all → G .times done' (power G square' (n / 2)) ≡ all
+      → G .times done (power G square n) ≡ all → G .times done' (power G square' (n / 2)) ≡ all
   squared-odd {done} {square} {done'} {square'} n h ed es before =
       ap (λ y. G .times y (power G square' (n / 2))) ed
       ∙ ap (λ y. G .times (G .times done square) (power G y (n / 2))) es

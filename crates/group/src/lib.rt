@@ -17,9 +17,13 @@ pub trait Exponent: Copy {
     type Posted: Copy;
 
     ghost exponents: { Exponents };
+
     ghost laws: { ExponentLaws exponents };
+
     ghost value: { Self → ℕ };
+
     ghost below: { (x : Self) → value x < exponents .order };
+
     ghost number: { Self·Posted → ℕ };
 
     // The order, as a number.
@@ -70,14 +74,18 @@ pub struct WrongLength;
 // A group, known by its laws. What an element means is a point: a card's handles may differ for one point.
 pub trait Group {
     type Element: Copy;
+
     type Exponent: Exponent;
 
     // How many bytes an element's code has.
     const WIDTH: usize;
 
     ghost Point: { Type 0 };
+
     ghost point: { Self·Element → Point };
+
     ghost operations: { Operations Point };
+
     ghost laws: { GroupLaws operations };
 
     // The group's order: that of its exponents.

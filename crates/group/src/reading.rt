@@ -3,10 +3,13 @@
 ghost use Prim.Native.Nat.{_≤_, _<_, _^_};
 ghost use mathlib.Core.Path.{_≡_};
 ghost use Rattle.std.specs.Results.{Cases};
+ghost use Rattle.group.specs.Codes.{four-bytes};
 ghost use Rattle.refusal.specs.Table.{refused-at};
 ghost use Rattle.refusal.specs.declared.Reason.the-variants.{NoElement, UnfitNumber};
-use crate::{Exponent, Group};
-use refusal::{Reason, Refusal};
+use crate::Exponent;
+use crate::Group;
+use refusal::Reason;
+use refusal::Refusal;
 
 // The element that has this code.
 pub fn read_element<G: Group>(g: &G, code: &[u8], place: usize) -> Result<G::Element, Refusal>
@@ -16,6 +19,13 @@ pub fn read_element<G: Group>(g: &G, code: &[u8], place: usize) -> Result<G::Ele
         Some(element) => Ok(element),
         None => Err(Reason::NoElement.at(place)),
     }
+}
+
+// The element whose code is the number in four bytes.
+pub fn read_number<G: Group>(g: &G, number: u32, place: usize) -> Result<G::Element, Refusal>
+    ensures { λ r. ⌜ Cases r (λ e. G·Group .operations .code (G·Group .point e) ≡ four-bytes number) (λ f. (f ≡ refused-at NoElement place) × ((x : G·Group .Point) → G·Group .operations .code x ≡ four-bytes number → ⊥)) ⌝ }
+{
+    read_element(g, &number.to_be_bytes(), place)
 }
 
 // The exponent that was posted: taken exactly where it is below the order.

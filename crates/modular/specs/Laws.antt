@@ -39,7 +39,7 @@ tested-of q bits t =
       some-bits = ltb→lt 0 bits (both-first (ltb 0 bits) _ t2);
       few-bits = leb→le bits 63 (both-first (leb bits 63) _ t3);
       room = leb→le (2 ^ bits) q (both-first (leb (2 ^ bits) q) _ t4);
-      inverses = inverses-of q large small (both-second (leb (2 ^ bits) q) _ t4)
+      inverses = inverses-of q large small (both-second (leb (2 ^ bits) q) _ t4);
     }
 
 pub modular-laws : (q bits : ℕ) → T (order-test q bits) → ExponentLaws (modular q bits)
@@ -51,5 +51,5 @@ modular-laws q bits passed =
       inverse-times = t .inverses;
       some-bits = t .some-bits;
       few-bits = t .few-bits;
-      room = t .room
+      room = t .room;
     }

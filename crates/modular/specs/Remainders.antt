@@ -6,7 +6,7 @@ use native.Mathlib.Nat.{div-add-mod, add-mul, mul-assoc, mul-comm, mul-mul-mul-c
 pub mod-mul-left : (a b m : ℕ) → (a % m * b) % m ≡ (a * b) % m
 mod-mul-left a b m =
     let e : a * b ≡ m * (a / m * b) + a % m * b =
-      ap (λ (x : ℕ). x * b) (sym (div-add-mod a m)) ∙ add-mul (m * (a / m)) (a % m) b ∙ ap (λ (x : ℕ). x + a % m * b) (mul-assoc m (a / m) b)
+    ap (λ (x : ℕ). x * b) (sym (div-add-mod a m)) ∙ add-mul (m * (a / m)) (a % m) b ∙ ap (λ (x : ℕ). x + a % m * b) (mul-assoc m (a / m) b)
     in
     sym (ap (λ (x : ℕ). x % m) e ∙ mul-add-mod-self-left m (a / m * b) (a % m * b))
 

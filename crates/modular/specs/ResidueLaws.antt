@@ -43,13 +43,13 @@ module _ (p q g : ℕ) (t : T (subgroup-test p q g)) where
   pub residue-laws : GroupLaws (residues p q g t)
   residue-laws = record {
     associative = λ x y z. residue-path p q _ _ (
-      mod-mul-left (x .0 * y .0) (z .0) p ∙ ap (λ (w : ℕ). w % p) (mul-assoc (x .0) (y .0) (z .0)) ∙ sym (mod-mul-right (x .0) (y .0 * z .0) p));
+        mod-mul-left (x .0 * y .0) (z .0) p ∙ ap (λ (w : ℕ). w % p) (mul-assoc (x .0) (y .0) (z .0)) ∙ sym (mod-mul-right (x .0) (y .0 * z .0) p));
     commutative = λ x y. residue-path p q _ _ (ap (λ (w : ℕ). w % p) (mul-comm (x .0) (y .0)));
     neutral = λ x. residue-path p q _ _ (ap (λ (w : ℕ). w % p) (one-mul (x .0)) ∙ mod-eq-of-lt (member-below p q (x .0) (x .1)));
     inverted = λ x. residue-path p q _ _ (
-      let h = some in
-      let e : suc (q - 1) ≡ q = omega arith in
-      mod-mul-right (x .0) (x .0 ^ (q - 1)) p ∙ ap (λ (w : ℕ). w % p) (sym (pow-succ' (x .0) (q - 1))) ∙ ap (λ (w : ℕ). (x .0 ^ w) % p) e ∙ member-power p q (x .0) (x .1));
+        let h = some in
+        let e : suc (q - 1) ≡ q = omega arith in
+        mod-mul-right (x .0) (x .0 ^ (q - 1)) p ∙ ap (λ (w : ℕ). w % p) (sym (pow-succ' (x .0) (q - 1))) ∙ ap (λ (w : ℕ). (x .0 ^ w) % p) e ∙ member-power p q (x .0) (x .1));
     some-order = some;
     whole-power = λ x. residue-path p q _ _ (power-is x q ∙ member-power p q (x .0) (x .1));
     proper = λ e. proper (ap (λ x. x .0) e);
@@ -57,8 +57,8 @@ module _ (p q g : ℕ) (t : T (subgroup-test p q g)) where
     few-width = omega arith;
     code-length = λ x. refl;
     code-own = λ x y e.
-      let s = small in
-      let hx : x .0 < p = member-below p q (x .0) (x .1) in
-      let hy : y .0 < p = member-below p q (y .0) (y .1) in
-      residue-path p q x y (own-bytes (x .0) (y .0) (omega arith) (omega arith) e)
+        let s = small in
+        let hx : x .0 < p = member-below p q (x .0) (x .1) in
+        let hy : y .0 < p = member-below p q (y .0) (y .1) in
+        residue-path p q x y (own-bytes (x .0) (y .0) (omega arith) (omega arith) e);
   }

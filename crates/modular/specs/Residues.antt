@@ -72,5 +72,5 @@ residues p q g t = record {
   inverse = λ x. ((x .0 ^ (q - 1)) % p, power-member p q (large-of p q g t) (x .0) (q - 1) (x .1));
   base = (g, generator-of p q g t);
   width = 4;
-  code = λ x. four-bytes (x .0)
+  code = λ x. four-bytes (x .0);
 }

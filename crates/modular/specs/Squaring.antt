@@ -33,7 +33,6 @@ no-turn d s t n m z h was =
     let e : d * s ^ n ≡ d = ap (λ (k : ℕ). d * s ^ k) z ∙ ap (λ (x : ℕ). d * x) (pow-zero s) ∙ mul-one d in
     sym (mod-eq-of-lt h) ∙ ap (λ (x : ℕ). x % m) (sym e) ∙ was
 
-
 -- the first for 0, else the second
 abbrev either : ℕ → ℕ → ℕ → ℕ
 either zero a b = a
@@ -50,8 +49,9 @@ squaring-is (suc f) m d s k h l = go (k % 2) refl (λ x b. squaring-is f m x ((s
   where
     half : k / 2 < 2 ^ f
     half = omega (arith, pow-suc 2 f)
+
     go : (r : ℕ) → k % 2 ≡ r → ((x : ℕ) → x < m → squaring f m x ((s * s) % m) (k / 2) ≡ (x * ((s * s) % m) ^ (k / 2)) % m)
-      → squaring f m (either r d ((d * s) % m)) ((s * s) % m) (k / 2) ≡ (d * s ^ k) % m
+        → squaring f m (either r d ((d * s) % m)) ((s * s) % m) (k / 2) ≡ (d * s ^ k) % m
     go zero e ih = ih d h ∙ even-turn d s _ k m (omega arith) refl
     go (suc zero) e ih = ih ((d * s) % m) (mod-lt (d * s) (omega arith)) ∙ odd-turn d s _ k m e refl
     go (suc (suc r)) e ih = absurd (omega arith)

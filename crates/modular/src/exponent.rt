@@ -4,7 +4,8 @@ ghost use mathlib.Core.Path.{_≡_};
 ghost use lib.Dec.{T};
 ghost use Rattle.modular.specs.Laws.{modular-laws};
 ghost use Rattle.modular.specs.Modular.{modular, order-test};
-use crate::arithmetic::{multiply_modulo, power_modulo};
+use crate::arithmetic::multiply_modulo;
+use crate::arithmetic::power_modulo;
 use group::Exponent;
 use std::marker::PhantomData;
 
@@ -41,13 +42,21 @@ impl<const Q: u32, const L: u32, M: PrimeOrder<Q, L>> Modular<Q, L, M> {
     }
 }
 
-pub impl<const Q: u32, const L: u32, M: PrimeOrder<Q, L>> Exponent for Modular<Q, L, M> as ModularExponent {
+pub impl<const Q: u32, const L: u32, M: PrimeOrder<Q, L>> Exponent for Modular<
+    Q,
+    L,
+    M,
+> as ModularExponent {
     type Posted = u32;
 
     ghost exponents = { modular Q L };
+
     ghost laws = { modular-laws Q L (M·PrimeOrder .tested) };
+
     ghost value = { λ x. x .value };
+
     ghost below = { λ x. x .small };
+
     ghost number = { λ n. n };
 
     fn order() -> u32 {

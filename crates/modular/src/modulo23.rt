@@ -1,11 +1,15 @@
 // Group 1: the residues modulo 23 whose 11th power is 1, from the generator 2.
 use crate::exponent::PrimeOrder;
-use crate::residue::{Residues, Subgroup};
+use crate::residue::Residues;
+use crate::residue::Subgroup;
 use std::marker::PhantomData;
 
 pub const PRIME: u32 = 23;
+
 pub const ORDER: u32 = 11;
+
 pub const GENERATOR: u32 = 2;
+
 pub const CHALLENGE_BITS: u32 = 3;
 
 #[derive(Clone, Copy)]
@@ -21,4 +25,6 @@ pub impl Subgroup<PRIME, ORDER, GENERATOR> for Modulo23 as Modulo23Subgroup {
 
 pub type ResiduesModulo23 = Residues<PRIME, ORDER, GENERATOR, CHALLENGE_BITS, Modulo23>;
 
-pub const RESIDUES_MODULO_23: ResiduesModulo23 = Residues { marker: PhantomData };
+pub const RESIDUES_MODULO_23: ResiduesModulo23 = Residues {
+    marker: PhantomData,
+};

@@ -64,7 +64,7 @@ polynomial-laws = record {
   few-width = omega arith;
   code-length = λ x. refl;
   code-own = λ x y e.
-    let hx : x .0 < 8192 = nonzero-below (x .0) (x .1) in
-    let hy : y .0 < 8192 = nonzero-below (y .0) (y .1) in
-    nonzero-path x y (own-bytes (x .0) (y .0) (omega arith) (omega arith) e)
+      let hx : x .0 < 8192 = nonzero-below (x .0) (x .1) in
+      let hy : y .0 < 8192 = nonzero-below (y .0) (y .1) in
+      nonzero-path x y (own-bytes (x .0) (y .0) (omega arith) (omega arith) e);
 }

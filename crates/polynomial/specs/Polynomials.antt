@@ -56,5 +56,5 @@ polynomials = record {
   inverse = λ x. repeated x 8190;
   base = (2, tt);
   width = 4;
-  code = λ x. four-bytes (x .0)
+  code = λ x. four-bytes (x .0);
 }

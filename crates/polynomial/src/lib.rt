@@ -4,14 +4,23 @@ ghost use lib.Bits.{bitXor};
 ghost use lib.Dec.{T};
 ghost use mathlib.Core.Path.{_≡_};
 ghost use Rattle.std.specs.Options.{Cases as BySome};
+ghost use Rattle.std.specs.Written.{decimal};
+ghost use Rattle.std.specs.declared.option.Option.the-variants.{Some};
 ghost use Rattle.polynomial.specs.Laws.{polynomial-laws};
 ghost use Rattle.polynomial.specs.Polynomials.{nonzero, Nonzero, polynomials};
 ghost use Rattle.polynomial.specs.Product.{times-t, product};
-use group::codes::{FOUR_BYTES, read_four_bytes, write_four_bytes};
-use group::{Group, WrongLength};
-use modular::exponent::{Modular, ModularExponent, PrimeOrder};
+use group::Group;
+use group::WrongLength;
+use group::codes::FOUR_BYTES;
+use group::codes::read_four_bytes;
+use group::codes::write_four_bytes;
+use modular::exponent::Modular;
+use modular::exponent::ModularExponent;
+use modular::exponent::PrimeOrder;
+use std::fmt;
 
 pub const ORDER: u32 = 8191;
+
 pub const CHALLENGE_BITS: u32 = 12;
 
 // The number of t^13 + t^4 + t^3 + t + 1.
@@ -49,6 +58,15 @@ pub struct Polynomial {
     ghost nonzero: { T (nonzero value) },
 }
 
+pub impl fmt::Display for Polynomial as PolynomialDisplay {
+    ghost shown = { λ x. Some (decimal (x .value)) };
+
+    fn fmt<W: fmt::Write>(&self, f: &mut fmt::Formatter<W>) -> fmt::Result {
+        let value = self.value;
+        write!(f, "{value}")
+    }
+}
+
 // The element that a number is; none where it is no element.
 fn element(number: u32) -> Option<Polynomial>
     ensures { λ r. ⌜ BySome r (T (nonzero number) → ⊥) (λ e. e .value ≡ number) ⌝ }
@@ -70,13 +88,17 @@ pub impl PrimeOrder<ORDER, CHALLENGE_BITS> for Polynomials as PolynomialsOrder {
 
 pub impl Group for Polynomials as PolynomialsGroup {
     type Element = Polynomial;
+
     type Exponent = Modular<ORDER, CHALLENGE_BITS, Polynomials>;
 
     const WIDTH: usize = FOUR_BYTES;
 
     ghost Point = { Nonzero };
+
     ghost point = { λ x. (x .value, x .nonzero) };
+
     ghost operations = { polynomials };
+
     ghost laws = { polynomial-laws };
 
     fn order(&self) -> u32 {

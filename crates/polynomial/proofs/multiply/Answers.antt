@@ -9,7 +9,7 @@ use Rattle.polynomial.proofs.multiply.Needs as need
 
 -- one turn: a bit of b is done, and one less is left
 turn : (s x y t i : ℕ) → i < 13 → bitXor s (product (13 - i) x y) ≡ t
-  → bitXor (bitXor s (x * (y % 2))) (product (13 - (i + 1)) (times-t x) (y / 2)) ≡ t
+    → bitXor (bitXor s (x * (y % 2))) (product (13 - (i + 1)) (times-t x) (y / 2)) ≡ t
 unfolding product
 turn s x y t i h was =
     let e : suc (13 - (i + 1)) ≡ 13 - i = omega arith in
@@ -39,9 +39,9 @@ loop-turn-again c =
 pub returns : need.returns
 returns c =
     let is : c .loop-turn .sum ≡ product 13 (c .args .a) (c .args .b) =
-      none-left (c .loop-turn .sum) (c .loop-turn .shifted) (c .loop-turn .bits) _ (c .loop-turn .turn) (omega arith) (c .loop-turn .inv .1)
+    none-left (c .loop-turn .sum) (c .loop-turn .shifted) (c .loop-turn .bits) _ (c .loop-turn .turn) (omega arith) (c .loop-turn .inv .1)
     in
     record {
       is = is;
-      linear = λ d h. product-xor 13 (c .args .a) d (c .args .b) (c .pre) h ∙ ap (λ (x : ℕ). bitXor x (product 13 d (c .args .b))) (sym is)
+      linear = λ d h. product-xor 13 (c .args .a) d (c .args .b) (c .pre) h ∙ ap (λ (x : ℕ). bitXor x (product 13 d (c .args .b))) (sym is);
     }

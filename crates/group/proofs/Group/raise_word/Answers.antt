@@ -8,8 +8,8 @@ pub loop-left-again : need.loop-left-again
 loop-left-again g c =
     let m = g .Self·Group in
     elim (c .if-left-eq1 .came) [
-      then-left-eq1 w ↦ squared-odd (m .laws) (c .loop-left .left) (w .if-left-eq1 .taken) (ap (m .point) (w .done-is) ∙ w .multiply-done .ensures) (c .multiply-square .ensures) (c .loop-left .inv)
-    | else-left-eq1 w ↦ squared-even (m .laws) (c .loop-left .left) (w .if-left-eq1 .left) (ap (m .point) (w .done-is)) (c .multiply-square .ensures) (c .loop-left .inv)
+      | then-left-eq1 w ↦ squared-odd (m .laws) (c .loop-left .left) (w .if-left-eq1 .taken) (ap (m .point) (w .done-is) ∙ w .multiply-done .ensures) (c .multiply-square .ensures) (c .loop-left .inv)
+      | else-left-eq1 w ↦ squared-even (m .laws) (c .loop-left .left) (w .if-left-eq1 .left) (ap (m .point) (w .done-is)) (c .multiply-square .ensures) (c .loop-left .inv)
     ]
 
 pub returns : need.returns

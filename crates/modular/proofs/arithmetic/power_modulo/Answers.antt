@@ -18,8 +18,8 @@ loop-left-again c =
     let P : ℕ → ℕ → Type 0 = λ x y. (x < m) × (y < m) × ((x * y ^ (n / 2)) % m ≡ t) in
     let Q : ℕ → Type 0 = λ y. P (c .if-left-eq1 .done) y in
     subst Q (sym (c .multiply-modulo-square .ensures)) (elim (c .if-left-eq1 .came) [
-      then-left-eq1 w ↦ subst (λ (x : ℕ). P x ((s * s) % m)) (sym (w .done-is ∙ w .multiply-modulo-done .ensures)) (mod-lt (d * s) (omega arith), low, odd-turn d s t n m (w .if-left-eq1 .taken) (c .loop-left .inv .2))
-    | else-left-eq1 w ↦ subst (λ (x : ℕ). P x ((s * s) % m)) (sym (w .done-is)) (c .loop-left .inv .0, low, even-turn d s t n m (w .if-left-eq1 .left) (c .loop-left .inv .2))
+      | then-left-eq1 w ↦ subst (λ (x : ℕ). P x ((s * s) % m)) (sym (w .done-is ∙ w .multiply-modulo-done .ensures)) (mod-lt (d * s) (omega arith), low, odd-turn d s t n m (w .if-left-eq1 .taken) (c .loop-left .inv .2))
+      | else-left-eq1 w ↦ subst (λ (x : ℕ). P x ((s * s) % m)) (sym (w .done-is)) (c .loop-left .inv .0, low, even-turn d s t n m (w .if-left-eq1 .left) (c .loop-left .inv .2))
     ])
 
 pub returns : need.returns
