@@ -1,0 +1,5 @@
+use Rattle.examples.proofs.Ciphertexts.{ciphertexts-hold}
+use Rattle.examples.proofs.examples_hold.Needs as need
+
+pub returns : need.returns
+returns c = record { ciphertexts = ciphertexts-hold }
