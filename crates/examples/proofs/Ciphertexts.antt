@@ -25,5 +25,5 @@ ciphertexts-hold = record {
   code-5 = no-code 5 (omega arith) (λ t. t);
   code-23 = no-code 23 (omega arith) (λ t. t);
   refused-by = refl;
-  polynomial-product = refl
+  polynomial-product = refl;
 }

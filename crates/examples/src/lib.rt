@@ -4,5 +4,4 @@ ghost use Rattle.examples.specs.Examples.{Examples};
 // The examples hold.
 pub fn examples_hold()
     ensures { λ _. ⌜ Examples ⌝ }
-{
-}
+{}

@@ -28,7 +28,7 @@ impl<const Q: u32, const L: u32, M: PrimeOrder<Q, L>> Modular<Q, L, M> {
     pub fn word(self) -> u64
         ensures { λ r. ⌜ r ≡ self .value ⌝ }
     {
-        self.value as u64
+        u64::from(self.value)
     }
 
     // The remainder of n.

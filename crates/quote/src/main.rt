@@ -2,11 +2,21 @@
 mod sealing;
 
 use modular::exponent::ModularExponent;
-use modular::modulo23::{Modulo23Order, Modulo23Subgroup, RESIDUES_MODULO_23};
-use modular::residue::{ResidueDisplay, ResiduesGroup};
-use polynomial::{PolynomialDisplay, Polynomials, PolynomialsGroup, PolynomialsOrder};
-use refusal::{Reason, Refusal, RefusalDisplay};
-use sealing::{QuoteDisplay, Sealing, seal};
+use modular::modulo23::Modulo23Order;
+use modular::modulo23::Modulo23Subgroup;
+use modular::modulo23::RESIDUES_MODULO_23;
+use modular::residue::ResidueDisplay;
+use modular::residue::ResiduesGroup;
+use polynomial::PolynomialDisplay;
+use polynomial::Polynomials;
+use polynomial::PolynomialsGroup;
+use polynomial::PolynomialsOrder;
+use refusal::Reason;
+use refusal::Refusal;
+use refusal::RefusalDisplay;
+use sealing::QuoteDisplay;
+use sealing::Sealing;
+use sealing::seal;
 use std::error::AnyError;
 use std::fmt;
 use std::str::SplitWhitespace;
@@ -49,7 +59,10 @@ fn read_line(text: &str) -> Option<Line> {
 }
 
 // Prints what was sealed, or the refusal.
-fn print<D: fmt::Display + Drop>(rt: &LibcRuntime, answer: Result<D, Refusal>) -> Result<(), AnyError> {
+fn print<D: fmt::Display + Drop>(
+    rt: &LibcRuntime,
+    answer: Result<D, Refusal>,
+) -> Result<(), AnyError> {
     match answer {
         Ok(quote) => rt.println(quote)?,
         Err(refusal) => rt.println(refusal)?,

@@ -2,9 +2,16 @@
 ghost use Rattle.std.specs.Results.{Cases};
 ghost use Rattle.group.specs.Codes.{four-bytes};
 ghost use Rattle.quote.specs.Quotes.{quote-meaning, Sealed, Unfit};
-use elgamal::{Ciphertext, CiphertextClone, decrypt, encrypt, public_key, reencrypt};
-use group::reading::{read_exponent, read_number};
-use group::{Exponent, Group};
+use elgamal::Ciphertext;
+use elgamal::CiphertextClone;
+use elgamal::decrypt;
+use elgamal::encrypt;
+use elgamal::public_key;
+use elgamal::reencrypt;
+use group::Exponent;
+use group::Group;
+use group::reading::read_exponent;
+use group::reading::read_number;
 use refusal::Refusal;
 use std::fmt;
 
@@ -32,7 +39,11 @@ pub impl<E: fmt::Display> fmt::Display for Quote<E> as QuoteDisplay {
         let sealed = &self.sealed;
         let mixed = &self.mixed;
         let opened = &self.opened;
-        write!(f, "key {key} sealed {} {} mixed {} {} opened {opened}", sealed.alpha, sealed.beta, mixed.alpha, mixed.beta)
+        write!(
+            f,
+            "key {key} sealed {} {} mixed {} {} opened {opened}",
+            sealed.alpha, sealed.beta, mixed.alpha, mixed.beta
+        )
     }
 }
 
