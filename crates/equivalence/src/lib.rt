@@ -1,0 +1,3 @@
+// The two plaintext-equivalence proofs of a comparator: their check, and their honest maker.
+pub mod comparison;
+mod posting;
