@@ -37,3 +37,13 @@ appended-both {P} {G} {xs} {ys} {at} {mid} {end} {before} {between} {after} p q 
 pub written-fits : {X E : Type 0} (width : ℕ) (code before after : List ℕ) (r : Result X E) → Written width code before after r → length before ≡ width → after ≡ code
 written-fits width code before after (Ok x) w h = w .1
 written-fits width code before after (Err e) w h = absurd (w .0 h)
+
+pub appended-none : {P : Type 0} (G : Operations P) (at : ℕ) (buffer : List ℕ) → Appended G [] at at buffer buffer
+unfolding codes
+appended-none G at buffer = record { ends = omega arith; bytes = sym (append-nil (take at buffer)) }
+
+-- what stands at the buffer's front, as the part of it from 0
+pub front : {P : Type 0} {G : Operations P} {xs : List P} {end : ℕ} {before after : List ℕ} → Appended G xs 0 end before after → take (end - 0) after ≡ codes G xs
+front {P} {G} {xs} {end} {before} {after} p =
+    let e : end - 0 ≡ end = omega arith in
+    ap (λ (n : ℕ). take n after) e ∙ p .bytes

@@ -1,2 +1,5 @@
 pub mod Comparison
 pub mod Posting
+pub mod Commitments
+pub mod Equations
+pub mod Judgement

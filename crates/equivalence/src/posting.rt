@@ -5,6 +5,7 @@ ghost use mathlib.Core.List.{[], _∷_};
 ghost use lib.ListN.{length};
 ghost use Rattle.elgamal.specs.Ciphertexts.{meaning};
 ghost use Rattle.equivalence.specs.Comparison.{pair-meaning, comparison-meaning, ciphertext-points, pair-points, posted};
+ghost use Rattle.equivalence.specs.Commitments.{commitment-points};
 ghost use Rattle.equivalence.specs.Posting.{codes, Appended};
 ghost use Rattle.source.specs.Words.{Drawn};
 use crate::comparison::{Comparison, Pair};
@@ -47,4 +48,37 @@ fn post_comparison<G: Group>(g: &G, comparison: Comparison<G::Element>, buffer: 
     let end = post_element(g, comparison.key, buffer, 0);
     let end = post_pair(g, comparison.inputs, buffer, end);
     post_pair(g, comparison.outputs, buffer, end)
+}
+
+// What a challenge is drawn over beside the comparison: no commitment for a z, one for the
+// equivalence proof's challenge, two for the disjunctive proof's.
+#[derive(Clone, Copy)]
+pub(crate) enum Commitments<E> {
+    None,
+    One(E),
+    Two(E, E),
+}
+
+fn post_commitments<G: Group>(g: &G, commitments: Commitments<G::Element>, buffer: &mut [u8], at: usize) -> usize
+    requires { ⌜ at + 2 * G·Group .operations .width ≤ length (now buffer) ⌝ }
+    ensures { λ r. ⌜ Appended (G·Group .operations) (commitment-points (G·Group .point) commitments) at r (now (buffer .entry)) (now (buffer .exit)) ⌝ }
+{
+    match commitments {
+        Commitments::None => at,
+        Commitments::One(w) => post_element(g, w, buffer, at),
+        Commitments::Two(w1, w2) => {
+            let end = post_element(g, w1, buffer, at);
+            post_element(g, w2, buffer, end)
+        }
+    }
+}
+
+// The word drawn over the codes of a comparison and its commitments.
+pub(crate) fn draw_over<G: Group, S: Source>(g: &G, source: &S, comparison: Comparison<G::Element>, commitments: Commitments<G::Element>, question: u64, buffer: &mut [u8], place: usize) -> Result<u64, Refusal>
+    requires { ⌜ 11 * G·Group .operations .width ≤ length (now buffer) ⌝ }
+    ensures { λ r. ⌜ Drawn (S·Source .words (now (source .entry))) question (codes (G·Group .operations) (posted (comparison-meaning (G·Group .point) comparison) (commitment-points (G·Group .point) commitments))) place r ⌝ }
+{
+    let end = post_comparison(g, comparison, buffer);
+    let end = post_commitments(g, commitments, buffer, end);
+    draw(source, question, &buffer[0..end], place)
 }

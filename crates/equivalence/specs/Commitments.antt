@@ -1,0 +1,9 @@
+-- The commitments that a challenge is drawn over.
+use mathlib.Core.List.{List, [], _∷_}
+use Rattle.equivalence.specs.declared.posting.Commitments.{Commitments}
+use Rattle.equivalence.specs.declared.posting.Commitments.the-variants.{None, One, Two}
+
+abbrev pub commitment-points : {Element Point : Type 0} → (Element → Point) → Commitments Element → List Point
+commitment-points point None = []
+commitment-points point (One w) = point w ∷ []
+commitment-points point (Two w1 w2) = point w1 ∷ point w2 ∷ []
