@@ -22,15 +22,15 @@ codes-one G x = append-nil (G .code x)
 
 -- some points and then some more
 pub appended-both : {P : Type 0} {G : Operations P} {xs ys : List P} {at mid end : ℕ} {before between after : List ℕ}
-  → Appended G xs at mid before between → Appended G ys mid end between after → Appended G (xs ++ ys) at end before after
+    → Appended G xs at mid before between → Appended G ys mid end between after → Appended G (xs ++ ys) at end before after
 appended-both {P} {G} {xs} {ys} {at} {mid} {end} {before} {between} {after} p q = record {
   ends =
-    let long : length (xs ++ ys) * G .width ≡ length xs * G .width + length ys * G .width =
+      let long : length (xs ++ ys) * G .width ≡ length xs * G .width + length ys * G .width =
       ap (λ (n : ℕ). n * G .width) (length-append xs ys) ∙ add-mul (length xs) (length ys) (G .width) in
-    omega (arith, p .ends, q .ends);
+      omega (arith, p .ends, q .ends);
   bytes =
-    q .bytes ∙ ap (λ l. l ++ codes G ys) (p .bytes) ∙ append-assoc (take at before) (codes G xs) (codes G ys)
-    ∙ ap (λ l. take at before ++ l) (sym (codes-append G xs ys))
+      q .bytes ∙ ap (λ l. l ++ codes G ys) (p .bytes) ∙ append-assoc (take at before) (codes G xs) (codes G ys)
+      ∙ ap (λ l. take at before ++ l) (sym (codes-append G xs ys));
 }
 
 -- a code is written where the buffer has its length

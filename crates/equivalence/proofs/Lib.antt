@@ -1,2 +1,3 @@
 pub mod Appending
 pub mod SamePoint
+pub mod Judging

@@ -31,7 +31,7 @@ branch-meaning point number b = record { commitment = point (b .commitment); cha
 abbrev pub proofs-meaning : {Element Point Posted : Type 0} → (Element → Point) → (Posted → ℕ) → Proofs Element Posted → Proofs Point ℕ
 proofs-meaning point number p = record {
   equivalence = record { commitment = point (p .equivalence .commitment); answer = number (p .equivalence .answer) };
-  disjunction = record { first = branch-meaning point number (p .disjunction .first); second = branch-meaning point number (p .disjunction .second) }
+  disjunction = record { first = branch-meaning point number (p .disjunction .first); second = branch-meaning point number (p .disjunction .second) };
 }
 
 -- what a comparator draws: z and c of the equivalence proof, then z and c of the disjunctive one
@@ -45,13 +45,13 @@ abbrev both : Bool → Bool → Bool
 both true b = b
 both false b = false
 
--- Exponents are below the order, challenges have no more bits than a challenge has.
+-- A branch's numbers: a challenge has no more bits than it may, an exponent is below the order.
+abbrev pub branch-fits : {Point : Type 0} → Exponents → Branch Point ℕ → Bool
+branch-fits E b = both (ltb (b .challenge) (2 ^ E .challenge-bits)) (ltb (b .answer) (E .order))
+
+-- All posted numbers.
 abbrev pub numbers-fit : {Point : Type 0} → Exponents → Proofs Point ℕ → Bool
-numbers-fit E p =
-    both (ltb (p .equivalence .answer) (E .order))
-    (both (ltb (p .disjunction .first .challenge) (2 ^ E .challenge-bits))
-    (both (ltb (p .disjunction .second .challenge) (2 ^ E .challenge-bits))
-    (both (ltb (p .disjunction .first .answer) (E .order)) (ltb (p .disjunction .second .answer) (E .order)))))
+numbers-fit E p = both (ltb (p .equivalence .answer) (E .order)) (both (branch-fits E (p .disjunction .first)) (branch-fits E (p .disjunction .second)))
 
 -- nothing, or the reason where the condition fails
 abbrev pub unless : Bool → Reason → Option Reason → Option Reason
@@ -65,15 +65,17 @@ module _ {Point : Type 0} (G : Operations Point) where
     equivalence-z = z-of E (S .word first (codes G (posted k [])));
     equivalence-c = c-of E (S .word (first + 1) (codes G (posted k (p .equivalence .commitment ∷ []))));
     disjunction-z = z-of E (S .word (first + 2) (codes G (posted k [])));
-    disjunction-c = c-of E (S .word (first + 3) (codes G (posted k (p .disjunction .first .commitment ∷ p .disjunction .second .commitment ∷ []))))
+    disjunction-c = c-of E (S .word (first + 3) (codes G (posted k (p .disjunction .first .commitment ∷ p .disjunction .second .commitment ∷ []))));
   }
 
   -- The equivalence proof is of the products of inputs and of outputs; the branches pair the first input with each output.
+  abbrev pub equivalence-accepted : Comparison Point → (z : ℕ) (w : Point) (c s : ℕ) → Bool
+  equivalence-accepted k z w c s =
+      accepted G (folded-key G (k .key) z)
+      (folded-quotient G (multiplied G (k .inputs .first) (k .inputs .second)) (multiplied G (k .outputs .first) (k .outputs .second)) z) w c s
+
   abbrev pub equivalence-test : Comparison Point → Proofs Point ℕ → Draws → Bool
-  equivalence-test k p d =
-      accepted G (folded-key G (k .key) (d .equivalence-z))
-      (folded-quotient G (multiplied G (k .inputs .first) (k .inputs .second)) (multiplied G (k .outputs .first) (k .outputs .second)) (d .equivalence-z))
-      (p .equivalence .commitment) (d .equivalence-c) (p .equivalence .answer)
+  equivalence-test k p d = equivalence-accepted k (d .equivalence-z) (p .equivalence .commitment) (d .equivalence-c) (p .equivalence .answer)
 
   abbrev pub split-test : Proofs Point ℕ → Draws → Bool
   split-test p d = eqb (bitXor (p .disjunction .first .challenge) (p .disjunction .second .challenge)) (d .disjunction-c)

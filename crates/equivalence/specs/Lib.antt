@@ -3,3 +3,4 @@ pub mod Posting
 pub mod Commitments
 pub mod Equations
 pub mod Judgement
+pub mod Drawing

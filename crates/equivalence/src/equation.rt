@@ -20,7 +20,12 @@ pub fn fold_key<G: Group>(g: &G, key: G::Element, z: G::Exponent) -> G::Element
 }
 
 // What a new ciphertext is over an old one, folded by z.
-pub fn fold_quotient<G: Group>(g: &G, old: Ciphertext<G::Element>, new: Ciphertext<G::Element>, z: G::Exponent) -> G::Element
+pub fn fold_quotient<G: Group>(
+    g: &G,
+    old: Ciphertext<G::Element>,
+    new: Ciphertext<G::Element>,
+    z: G::Exponent,
+) -> G::Element
     ensures { λ r. ⌜ G·Group .point r ≡ folded-quotient (G·Group .operations) (meaning (G·Group .point) old) (meaning (G·Group .point) new) (Exponent·Exponent .value z) ⌝ }
 {
     let alpha = divide(g, new.alpha, old.alpha);
@@ -29,8 +34,18 @@ pub fn fold_quotient<G: Group>(g: &G, old: Ciphertext<G::Element>, new: Cipherte
 }
 
 // Whether the answer to the challenge upon the commitment is right, for a folded key and quotient.
-pub fn accepts<G: Group>(g: &G, key: G::Element, quotient: G::Element, commitment: G::Element, challenge: u64, answer: G::Exponent) -> bool
+pub fn accepts<G: Group>(
+    g: &G,
+    key: G::Element,
+    quotient: G::Element,
+    commitment: G::Element,
+    challenge: u64,
+    answer: G::Exponent,
+) -> bool
     ensures { λ r. ⌜ r ≡ accepted (G·Group .operations) (G·Group .point key) (G·Group .point quotient) (G·Group .point commitment) challenge (Exponent·Exponent .value answer) ⌝ }
 {
-    g.equals(g.raise(key, answer), g.multiply(commitment, g.raise_word(quotient, challenge)))
+    g.equals(
+        g.raise(key, answer),
+        g.multiply(commitment, g.raise_word(quotient, challenge)),
+    )
 }

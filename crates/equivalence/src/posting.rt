@@ -8,11 +8,13 @@ ghost use Rattle.equivalence.specs.Comparison.{pair-meaning, comparison-meanin
 ghost use Rattle.equivalence.specs.Commitments.{commitment-points};
 ghost use Rattle.equivalence.specs.Posting.{codes, Appended};
 ghost use Rattle.source.specs.Words.{Drawn};
-use crate::comparison::{Comparison, Pair};
+use crate::comparison::Comparison;
+use crate::comparison::Pair;
 use elgamal::Ciphertext;
 use group::Group;
 use refusal::Refusal;
-use source::{Source, draw};
+use source::Source;
+use source::draw;
 
 // Writes an element's code to the buffer at a place, and answers where it ends.
 fn post_element<G: Group>(g: &G, element: G::Element, buffer: &mut [u8], at: usize) -> usize
@@ -24,7 +26,12 @@ fn post_element<G: Group>(g: &G, element: G::Element, buffer: &mut [u8], at: usi
     end
 }
 
-fn post_ciphertext<G: Group>(g: &G, c: Ciphertext<G::Element>, buffer: &mut [u8], at: usize) -> usize
+fn post_ciphertext<G: Group>(
+    g: &G,
+    c: Ciphertext<G::Element>,
+    buffer: &mut [u8],
+    at: usize,
+) -> usize
     requires { ⌜ at + 2 * G·Group .operations .width ≤ length (now buffer) ⌝ }
     ensures { λ r. ⌜ Appended (G·Group .operations) (ciphertext-points (meaning (G·Group .point) c)) at r (now (buffer .entry)) (now (buffer .exit)) ⌝ }
 {
@@ -59,7 +66,12 @@ pub(crate) enum Commitments<E> {
     Two(E, E),
 }
 
-fn post_commitments<G: Group>(g: &G, commitments: Commitments<G::Element>, buffer: &mut [u8], at: usize) -> usize
+fn post_commitments<G: Group>(
+    g: &G,
+    commitments: Commitments<G::Element>,
+    buffer: &mut [u8],
+    at: usize,
+) -> usize
     requires { ⌜ at + 2 * G·Group .operations .width ≤ length (now buffer) ⌝ }
     ensures { λ r. ⌜ Appended (G·Group .operations) (commitment-points (G·Group .point) commitments) at r (now (buffer .entry)) (now (buffer .exit)) ⌝ }
 {
@@ -74,7 +86,15 @@ fn post_commitments<G: Group>(g: &G, commitments: Commitments<G::Element>, buffe
 }
 
 // The word drawn over the codes of a comparison and its commitments.
-pub(crate) fn draw_over<G: Group, S: Source>(g: &G, source: &S, comparison: Comparison<G::Element>, commitments: Commitments<G::Element>, question: u64, buffer: &mut [u8], place: usize) -> Result<u64, Refusal>
+pub(crate) fn draw_over<G: Group, S: Source>(
+    g: &G,
+    source: &S,
+    comparison: Comparison<G::Element>,
+    commitments: Commitments<G::Element>,
+    question: u64,
+    buffer: &mut [u8],
+    place: usize,
+) -> Result<u64, Refusal>
     requires { ⌜ 11 * G·Group .operations .width ≤ length (now buffer) ⌝ }
     ensures { λ r. ⌜ Drawn (S·Source .words (now (source .entry))) question (codes (G·Group .operations) (posted (comparison-meaning (G·Group .point) comparison) (commitment-points (G·Group .point) commitments))) place r ⌝ }
 {

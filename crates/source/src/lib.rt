@@ -5,7 +5,8 @@ ghost use mathlib.Core.Path.{_≡_};
 ghost use Rattle.std.specs.Options.{Cases as BySome};
 ghost use Rattle.source.specs.Words.{Words, tape, joined, Drawn, z-of, c-of};
 use group::Exponent;
-use refusal::{Reason, Refusal};
+use refusal::Reason;
+use refusal::Refusal;
 
 // A source of challenges: one fixed word for each question below its reach and list of posted bytes.
 pub trait Source {
@@ -21,7 +22,12 @@ pub trait Source {
 }
 
 // The word for this question, or its refusal at the place that the caller names.
-pub fn draw<S: Source>(source: &S, question: u64, posted: &[u8], place: usize) -> Result<u64, Refusal>
+pub fn draw<S: Source>(
+    source: &S,
+    question: u64,
+    posted: &[u8],
+    place: usize,
+) -> Result<u64, Refusal>
     ensures { λ r. ⌜ Drawn (S·Source .words (now (source .entry))) question (now (posted .entry)) place r ⌝ }
 {
     match source.word(question, posted) {

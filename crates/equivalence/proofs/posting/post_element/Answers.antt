@@ -17,6 +17,6 @@ returns g c =
     record {
       ends = omega arith;
       bytes =
-        take-putMid (c .args .at) _ (c .args .buffer .now) (c .write .last .out) (c .args .at + c .code-width .result) (omega arith) (omega (arith, c .pre))
-        ∙ ap (λ ys. take (c .args .at) (c .args .buffer .now) ++ ys) (is ∙ sym (codes-one G x))
+          take-putMid (c .args .at) _ (c .args .buffer .now) (c .write .last .out) (c .args .at + c .code-width .result) (omega arith) (omega (arith, c .pre))
+          ∙ ap (λ ys. take (c .args .at) (c .args .buffer .now) ++ ys) (is ∙ sym (codes-one G x));
     }
