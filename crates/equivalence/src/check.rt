@@ -1,20 +1,17 @@
 // The check of a comparator: unfit numbers, the source's reach, and then each equation by itself.
 ghost use Prim.Native.Nat.{_+_, _<_, _≤_, _*_};
 ghost use mathlib.Core.Bool.{true, false};
-ghost use mathlib.Core.List.{[], _∷_};
 ghost use mathlib.Core.Path.{_≡_};
 ghost use lib.ListN.{length};
 ghost use Rattle.clearing.specs.Zeros.{zeros};
 ghost use Rattle.std.specs.Results.{Cases};
-ghost use Rattle.equivalence.specs.Comparison.{comparison-meaning, posted};
-ghost use Rattle.equivalence.specs.Judgement.{branch-meaning, proofs-meaning, branch-fits, numbers-fit, equivalence-accepted, judge-equations, judge, buffer-fits, unless, answered};
+ghost use Rattle.equivalence.specs.Comparison.{comparison-meaning};
+ghost use Rattle.equivalence.specs.Judgement.{branch-meaning, proofs-meaning, branch-fits, numbers-fit, draws, equivalence-accepted, judge-equations, judge, buffer-fits, unless, answered};
 ghost use Rattle.equivalence.specs.Equations.{folded-quotient, accepted};
 ghost use Rattle.elgamal.specs.Ciphertexts.{meaning};
 ghost use Rattle.equivalence.specs.Drawing.{draws-meaning};
-ghost use Rattle.equivalence.specs.Posting.{codes};
 ghost use Rattle.refusal.specs.Table.{refused-at};
 ghost use Rattle.refusal.specs.declared.Reason.the-variants.{UnfitLength, UnfitNumber, BeyondReach};
-ghost use Rattle.source.specs.Words.{z-of, c-of};
 use crate::comparison::Comparison;
 use crate::equation::accepts;
 use crate::equation::fold_key;
@@ -100,64 +97,28 @@ fn draw_all<G: Group, S: Source>(
     g: &G,
     source: &S,
     comparison: Comparison<G::Element>,
-    w: G::Element,
-    w1: G::Element,
-    w2: G::Element,
+    proofs: Proofs<G::Element, G::Exponent>,
     first: u64,
     buffer: &mut [u8],
     place: usize,
 ) -> Result<Draws<G::Exponent>, Refusal>
     requires { ⌜ 11 * G·Group .operations .width ≤ length (now buffer) ⌝ }
     ensures { λ r. ⌜ Cases r
-        (λ d. (first + 3 < S·Source .words (now (source .entry)) .reach)
-        × (Exponent·Exponent .value (d .«equivalence_z») ≡ z-of (Exponent·Exponent .exponents) (S·Source .words (now (source .entry)) .word first (codes (G·Group .operations) (posted (comparison-meaning (G·Group .point) comparison) []))))
-        × (d .«equivalence_c» ≡ c-of (Exponent·Exponent .exponents) (S·Source .words (now (source .entry)) .word (first + 1) (codes (G·Group .operations) (posted (comparison-meaning (G·Group .point) comparison) (G·Group .point w ∷ [])))))
-        × (Exponent·Exponent .value (d .«disjunction_z») ≡ z-of (Exponent·Exponent .exponents) (S·Source .words (now (source .entry)) .word (first + 2) (codes (G·Group .operations) (posted (comparison-meaning (G·Group .point) comparison) []))))
-        × (d .«disjunction_c» ≡ c-of (Exponent·Exponent .exponents) (S·Source .words (now (source .entry)) .word (first + 3) (codes (G·Group .operations) (posted (comparison-meaning (G·Group .point) comparison) (G·Group .point w1 ∷ G·Group .point w2 ∷ []))))))
+        (λ d. (first + 3 < S·Source .words (now (source .entry)) .reach) × (draws-meaning (Exponent·Exponent .value) d ≡ draws (G·Group .operations) (Exponent·Exponent .exponents) (S·Source .words (now (source .entry))) (comparison-meaning (G·Group .point) comparison) (proofs-meaning (G·Group .point) (Exponent·Exponent .value) proofs) first))
         (λ f. (S·Source .words (now (source .entry)) .reach ≤ first + 3) × (f ≡ refused-at BeyondReach place)) ⌝ }
 {
     if first.saturating_add(3) >= source.reach() {
         return Err(Reason::BeyondReach.at(place));
     }
-    let word = draw_over(
-        g,
-        source,
-        comparison,
-        Commitments::None,
-        first,
-        buffer,
-        place,
-    )?;
+    let Proofs { equivalence, disjunction } = proofs;
+    let DisjunctiveProof { first: b1, second: b2 } = disjunction;
+    let word = draw_over(g, source, comparison, Commitments::None, first, buffer, place)?;
     let equivalence_z = z_of::<G::Exponent>(word);
-    let word = draw_over(
-        g,
-        source,
-        comparison,
-        Commitments::One(w),
-        first + 1,
-        buffer,
-        place,
-    )?;
+    let word = draw_over(g, source, comparison, Commitments::One(equivalence.commitment), first + 1, buffer, place)?;
     let equivalence_c = c_of::<G::Exponent>(word);
-    let word = draw_over(
-        g,
-        source,
-        comparison,
-        Commitments::None,
-        first + 2,
-        buffer,
-        place,
-    )?;
+    let word = draw_over(g, source, comparison, Commitments::None, first + 2, buffer, place)?;
     let disjunction_z = z_of::<G::Exponent>(word);
-    let word = draw_over(
-        g,
-        source,
-        comparison,
-        Commitments::Two(w1, w2),
-        first + 3,
-        buffer,
-        place,
-    )?;
+    let word = draw_over(g, source, comparison, Commitments::Two(b1.commitment, b2.commitment), first + 3, buffer, place)?;
     let disjunction_c = c_of::<G::Exponent>(word);
     Ok(Draws {
         equivalence_z,
@@ -261,4 +222,43 @@ fn check_equations<G: Group>(
         return Err(Reason::SecondBranch.at(place));
     }
     Ok(())
+}
+
+// The check, within a buffer that fits.
+fn check_within<G: Group, S: Source>(
+    g: &G,
+    source: &S,
+    comparison: Comparison<G::Element>,
+    proofs: Proofs<G::Element, <G::Exponent as Exponent>::Posted>,
+    first: u64,
+    buffer: &mut [u8],
+    place: usize,
+) -> Result<(), Refusal>
+    requires { ⌜ 11 * G·Group .operations .width ≤ length (now buffer) ⌝ }
+    ensures { λ r. ⌜ answered (judge (G·Group .operations) (Exponent·Exponent .exponents) (S·Source .words (now (source .entry))) (comparison-meaning (G·Group .point) comparison) (proofs-meaning (G·Group .point) (Exponent·Exponent .number) proofs) first) place r ⌝ }
+{
+    let proofs = read_proofs::<G::Element, G::Exponent>(proofs, place)?;
+    let draws = draw_all(g, source, comparison, proofs, first, buffer, place)?;
+    check_equations(g, comparison, proofs, draws, place)
+}
+
+// Checks what a server posted for a comparator: taken exactly where every number is fit, the source reaches
+// four questions from `first` on, and each equation holds at what was drawn. The buffer ends as zeros.
+pub fn check<G: Group, S: Source>(
+    g: &G,
+    source: &S,
+    comparison: Comparison<G::Element>,
+    proofs: Proofs<G::Element, <G::Exponent as Exponent>::Posted>,
+    first: u64,
+    buffer: &mut [u8],
+    place: usize,
+) -> Result<(), Refusal>
+    ensures verdict { λ r. ⌜ answered (unless (buffer-fits (G·Group .operations) (length (now (buffer .entry)))) UnfitLength (judge (G·Group .operations) (Exponent·Exponent .exponents) (S·Source .words (now (source .entry))) (comparison-meaning (G·Group .point) comparison) (proofs-meaning (G·Group .point) (Exponent·Exponent .number) proofs) first)) place r ⌝ }
+    ensures cleared { λ _. ⌜ now (buffer .exit) ≡ zeros 0 (now (buffer .entry)) ⌝ }
+{
+    let buffer = Clearing { places: buffer };
+    if buffer.places.len() < 11 * g.code_width() {
+        return Err(Reason::UnfitLength.at(place));
+    }
+    check_within(g, source, comparison, proofs, first, buffer.places, place)
 }
