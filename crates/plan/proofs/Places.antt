@@ -7,7 +7,9 @@ use lib.ListN.{length, getD, take, drop}
 use Rattle.std.specs.Iters.{counting}
 use Rattle.std.specs.declared.option.Option.the-variants.{None, Some}
 use Rattle.std.specs.Options.{mapped}
-use Rattle.std.proofs.shelf.Lists.{ext-getD}
+use borrow.Author.Needs.{needs}
+use borrow.Rule.Slice.PartMut.{putMid}
+use Rattle.std.proofs.shelf.Lists.{ext-getD, length-take-le, length-drop, places}
 use Rattle.std.proofs.shelf.Counted.{length-map-counting, getD-map-counting}
 use Rattle.plan.specs.Plans.{nth}
 
@@ -43,3 +45,10 @@ pub filled : {X : Type 0} (f : ℕ → X) (a n : ℕ) (xs : List X) (d : X) → 
 filled f a n xs d l h =
     ext-getD d xs (map f (counting a n)) (l ∙ sym (length-map-counting f a n))
     (λ k b. h k (omega arith) ∙ sym (getD-map-counting f a n k (a + k) d (omega arith) refl))
+
+-- a part of a list, and the list after a write to that part
+pub length-part : {X : Type 0} (xs : List X) (a k : ℕ) → a + k ≤ length xs → length (take (a + k - a) (drop a xs)) ≡ k
+length-part xs a k h = let e : a + k - a ≡ k = omega arith in rw e (length-take-le k (drop a xs) (simp length-drop (omega arith)))
+
+pub length-put : {X : Type 0} (xs ys : List X) (a k : ℕ) → a + k ≤ length xs → length ys ≡ k → length (putMid a (a + k - a) xs ys) ≡ length xs
+length-put xs ys a k h l = search (needs, places)
