@@ -17,8 +17,8 @@ use Rattle.plan.specs.declared.Comparator.{Comparator}
 use Rattle.plan.specs.Plans.{on, nth, source}
 use Rattle.plan.proofs.Places.{nth-left, nth-right, nth-map, nth-counting}
 use Rattle.chain.specs.Listing.{chain-from, chain}
-use Rattle.chain.specs.Stages.{hit, Shuffle, Brings-from}
-use Rattle.chain.proofs.Rows.{settled, shuffle-rest, chain-more}
+use Rattle.chain.specs.Stages.{hit, Permutes, Brings-from}
+use Rattle.chain.proofs.Rows.{settled, permutes-rest, chain-more}
 
 chain-row : (j m : ℕ) → chain-from j (suc m) ≡ map (on j) (counting (j + 1) m) ++ chain-from (j + 1) m
 unfolding chain-from
@@ -57,34 +57,34 @@ none-left j n h = ap length (chain-none j n h)
 abbrev pub Goes : ℕ → ℕ → (ℕ → ℕ) → List Setting → (ℕ → ℕ) → Type 0
 Goes j n p out o = (ss : List Setting) → ((x : ℕ) → j ≤ x → x < n → source (chain-from j (n - j)) ss x ≡ p x) → (x : ℕ) → x < n → source (chain n) (out ++ ss) x ≡ o x
 
-shuffle-like : (j n : ℕ) (p q : ℕ → ℕ) → ((x : ℕ) → x < n → q x ≡ p x) → Shuffle j n p → Shuffle j n q
-shuffle-like j n p q e s =
+permutes-like : (j n : ℕ) (p q : ℕ → ℕ) → ((x : ℕ) → x < n → q x ≡ p x) → Permutes j n p → Permutes j n q
+permutes-like j n p q e s =
     record {
       low = λ x h l. let a = e x l in let b = s .low x h l in omega arith;
       high = λ x h l. let a = e x l in let b = s .high x h l in omega arith;
       distinct = λ x y hx lx hy ly f. s .distinct x y hx lx hy ly (sym (e x lx) ∙ f ∙ e y ly);
     }
 
-pub shuffle-more : (j n : ℕ) (p q : ℕ → ℕ) → j < n → Shuffle j n p → ((x : ℕ) → x < n → q x ≡ settled j p x) → Shuffle (j + 1) n q
-shuffle-more j n p q h s e =
+pub permutes-more : (j n : ℕ) (p q : ℕ → ℕ) → j < n → Permutes j n p → ((x : ℕ) → x < n → q x ≡ settled j p x) → Permutes (j + 1) n q
+permutes-more j n p q h s e =
     let m = n - (j + 1) in
     let a : n ≡ j + suc m = omega arith in
     let b : j + 1 + m ≡ n = omega arith in
-    let s′ : Shuffle j (j + suc m) p = subst (λ (z : ℕ). Shuffle j z p) a s in
-    let r : Shuffle (j + 1) n (settled j p) = subst (λ (z : ℕ). Shuffle (j + 1) z (settled j p)) b (shuffle-rest j m p s′) in
-    shuffle-like (j + 1) n (settled j p) q e r
+    let s′ : Permutes j (j + suc m) p = subst (λ (z : ℕ). Permutes j z p) a s in
+    let r : Permutes (j + 1) n (settled j p) = subst (λ (z : ℕ). Permutes (j + 1) z (settled j p)) b (permutes-rest j m p s′) in
+    permutes-like (j + 1) n (settled j p) q e r
 
 pub goes-none : (n : ℕ) (p : ℕ → ℕ) → Goes 0 n p [] p
 goes-none n p ss k x h = let e : n - 0 ≡ n = omega arith in sym (ap (λ m. source (chain-from 0 m) ss x) e) ∙ k x (omega arith) h
 
-pub goes-more : (j n : ℕ) (p q o : ℕ → ℕ) (out ext : List Setting) → j < n → Shuffle j n p → ((x : ℕ) → x < n → q x ≡ settled j p x) →
+pub goes-more : (j n : ℕ) (p q o : ℕ → ℕ) (out ext : List Setting) → j < n → Permutes j n p → ((x : ℕ) → x < n → q x ≡ settled j p x) →
     ext ≡ out ++ map (hit (p j)) (counting (j + 1) (n - 1 - j)) → Goes j n p out o → Goes (j + 1) n q ext o
 goes-more j n p q o out ext h s e f g ss k x l =
     let m = n - (j + 1) in
     let a : n ≡ j + suc m = omega arith in
     let b : n - 1 - j ≡ m = omega arith in
     let c : suc m ≡ n - j = omega arith in
-    let s′ : Shuffle j (j + suc m) p = subst (λ (z : ℕ). Shuffle j z p) a s in
+    let s′ : Permutes j (j + suc m) p = subst (λ (z : ℕ). Permutes j z p) a s in
     let f′ : ext ≡ out ++ map (hit (p j)) (counting (j + 1) m) = f ∙ ap (λ z. out ++ map (hit (p j)) (counting (j + 1) z)) b in
     ap (λ z. source (chain n) z x) (ap (λ z. z ++ ss) f′ ∙ append-assoc out (map (hit (p j)) (counting (j + 1) m)) ss)
     ∙ g (map (hit (p j)) (counting (j + 1) m) ++ ss)

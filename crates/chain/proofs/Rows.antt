@@ -19,7 +19,7 @@ use Rattle.plan.specs.declared.Comparator.{Comparator}
 use Rattle.plan.specs.Plans.{on, at, crossed, came-from, source, Within, Permutation, Brings, Lawful}
 use Rattle.plan.proofs.Running.{source-append, within-append, brings-from}
 use Rattle.chain.specs.Listing.{chain-from, chain, Fits}
-use Rattle.chain.specs.Stages.{hit, Shuffle, Brings-from}
+use Rattle.chain.specs.Stages.{hit, Permutes, Brings-from}
 
 through : (j w k x : ℕ) → came-from (on j k) (hit w k) x ≡ cond (eqb k w) (crossed (on j k) x) x
 through j w k x = elim (eqb k w) as (λ b. came-from (on j k) (cond b Swapped Straight) x ≡ cond b (crossed (on j k) x) x) [ true ↦ refl | false ↦ refl ]
@@ -80,8 +80,8 @@ untouched j (c ∷ cs) (s ∷ ss) x a h = ap (came-from c s) (untouched j cs ss 
 abbrev pub settled : ℕ → (ℕ → ℕ) → ℕ → ℕ
 settled j p x = crossed (on j (p j)) (p x)
 
-pub shuffle-rest : (j m : ℕ) (p : ℕ → ℕ) → Shuffle j (j + suc m) p → Shuffle (j + 1) (j + 1 + m) (settled j p)
-shuffle-rest j m p s =
+pub permutes-rest : (j m : ℕ) (p : ℕ → ℕ) → Permutes j (j + suc m) p → Permutes (j + 1) (j + 1 + m) (settled j p)
+permutes-rest j m p s =
     let jl = s .low j (omega arith) (omega arith) in
     let jh = s .high j (omega arith) (omega arith) in
     record {
@@ -101,7 +101,7 @@ crossed-first : (a b : ℕ) → crossed (on a b) a ≡ b
 crossed-first a b = grind (arith, tells)
 
 -- one row, and any settings that do for the rest
-pub chain-more : (j m : ℕ) (p : ℕ → ℕ) (ss : List Setting) → Shuffle j (j + suc m) p → Brings-from (j + 1) m ss (settled j p) →
+pub chain-more : (j m : ℕ) (p : ℕ → ℕ) (ss : List Setting) → Permutes j (j + suc m) p → Brings-from (j + 1) m ss (settled j p) →
     Brings-from j (suc m) (map (hit (p j)) (counting (j + 1) m) ++ ss) p
 unfolding chain-from
 chain-more j m p ss s r x h l =
@@ -115,11 +115,11 @@ chain-more j m p ss s r x h l =
     (cases-eq j x)
 
 -- settings for every permutation
-chain-route : (m j : ℕ) (p : ℕ → ℕ) → Shuffle j (j + m) p → (ss : List Setting) × (length ss ≡ length (chain-from j m)) × Brings-from j m ss p
+chain-route : (m j : ℕ) (p : ℕ → ℕ) → Permutes j (j + m) p → (ss : List Setting) × (length ss ≡ length (chain-from j m)) × Brings-from j m ss p
 unfolding chain-from
 chain-route zero j p s = ([], refl, λ x h l. absurd (omega arith))
 chain-route (suc m) j p s =
-    let r = chain-route m (j + 1) (settled j p) (shuffle-rest j m p s) in
+    let r = chain-route m (j + 1) (settled j p) (permutes-rest j m p s) in
     let e = r .1 in
     (map (hit (p j)) (counting (j + 1) m) ++ r .0, simp (length-append, length-map-counting) (omega arith), chain-more j m p (r .0) s (r .2))
 
@@ -140,8 +140,8 @@ chain-count j (suc m) =
     let ih = chain-count (j + 1) m in
     simp (length-append, length-map-counting, suc-mul, mul-suc) (omega arith)
 
-pub shuffle-of : (n : ℕ) (p : List ℕ) → Permutation n p → Shuffle 0 n (at p)
-shuffle-of n p v = record { low = λ x h l. omega arith; high = λ x h l. v .below x l; distinct = λ x y hx lx hy ly e. v .distinct x y lx ly e }
+pub permutes-of : (n : ℕ) (p : List ℕ) → Permutation n p → Permutes 0 n (at p)
+permutes-of n p v = record { low = λ x h l. omega arith; high = λ x h l. v .below x l; distinct = λ x y hx lx hy ly e. v .distinct x y lx ly e }
 
 pub chain-long : (n : ℕ) → length (chain n) ≡ (n * (n - 1)) / 2
 chain-long n = let k = chain-count 0 n in let d = mul-sub n n 1 in let o = mul-one n in omega arith
@@ -161,6 +161,6 @@ chain-lawful n f =
       few = omega arith;
       within = w;
       routes = λ p v.
-          let r = chain-route n 0 (at p) (subst (λ (z : ℕ). Shuffle 0 z (at p)) (omega arith) (shuffle-of n p v)) in
+          let r = chain-route n 0 (at p) (subst (λ (z : ℕ). Permutes 0 z (at p)) (omega arith) (permutes-of n p v)) in
           (r .0, brings-from n (chain n) (r .0) p w (r .1) (v .long) (λ x h. r .2 x (omega arith) (omega arith)));
     }

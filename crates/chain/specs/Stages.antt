@@ -14,7 +14,7 @@ abbrev pub hit : ℕ → ℕ → Setting
 hit w k = cond (eqb k w) Swapped Straight
 
 -- p takes the wires from j up to n to each other
-pub record Shuffle (j n : ℕ) (p : ℕ → ℕ) : Type 0 where
+pub record Permutes (j n : ℕ) (p : ℕ → ℕ) : Type 0 where
   pub low : (x : ℕ) → j ≤ x → x < n → j ≤ p x
   pub high : (x : ℕ) → j ≤ x → x < n → p x < n
   pub distinct : (x y : ℕ) → j ≤ x → x < n → j ≤ y → y < n → p x ≡ p y → x ≡ y

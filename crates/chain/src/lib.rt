@@ -6,11 +6,11 @@ ghost use Rattle.std.specs.Iters.{counting};
 ghost use Rattle.std.specs.Results.{Cases};
 ghost use Rattle.plan.specs.Plans.{nth, at, on, crossed, Routed};
 ghost use Rattle.chain.specs.Listing.{chain, Fits, Unfit};
-ghost use Rattle.chain.specs.Stages.{hit, Shuffle, Brings-from};
+ghost use Rattle.chain.specs.Stages.{hit, Permutes, Brings-from};
 use plan::Comparator;
 use plan::Plan;
 use plan::Setting;
-use plan::inverted;
+use plan::Shuffle;
 use refusal::Reason;
 use refusal::Refusal;
 
@@ -65,23 +65,13 @@ pub impl Plan for Chain as ChainPlan {
         if permutation.len() != self.wires || settings.len() != self.count() {
             return Err(Reason::UnfitLength.at(0));
         }
-        let Some(_) = inverted(permutation) else {
+        let Some(shuffle) = Shuffle::read(permutation) else {
             return Err(Reason::NoPermutation.at(0));
         };
-        let mut wanted = copied(permutation);
+        let mut wanted = shuffle.entries;
         set_rows(&mut wanted, self.wires, settings);
         Ok(())
     }
-}
-
-// The entries in the first places of a table.
-fn copied(entries: &[usize]) -> [usize; 64]
-    requires { ⌜ length (now entries) ≤ 64 ⌝ }
-    ensures { λ r. ⌜ ((x : ℕ) → x < length (now (entries .entry)) → at r x ≡ at (now (entries .entry)) x) ⌝ }
-{
-    let mut table = [0; 64];
-    table[0..entries.len()].copy_from_slice(entries);
-    table
 }
 
 // Sets the row of a wire for the item that stands on another wire after it, or on itself.
@@ -117,7 +107,7 @@ fn rename(entries: &mut [usize], one: usize, other: usize)
 // Row by row: the item wanted on a wire is brought there, and the wanted entries then name the wires as they are.
 fn set_rows(wanted: &mut [usize; 64], wires: usize, settings: &mut [Setting])
     requires narrow { ⌜ wires ≤ 64 ⌝ }
-    requires shuffle { ⌜ Shuffle 0 wires (at (now wanted)) ⌝ }
+    requires permutes { ⌜ Permutes 0 wires (at (now wanted)) ⌝ }
     requires places { ⌜ length (now settings) ≡ length (chain wires) ⌝ }
     ensures { λ _. ⌜ Brings-from 0 wires (now (settings .exit)) (at (now (wanted .entry))) ⌝ }
 {

@@ -98,6 +98,17 @@ pub record Inverse (n : ℕ) (p q : ℕ → ℕ) : Type 0 where
   pub back : (x : ℕ) → x < n → q (p x) ≡ x
   pub forth : (x : ℕ) → x < n → p (q x) ≡ x
 
+-- the entries are no permutation of at most 64 wires
+abbrev pub Unreadable : List ℕ → Type 0
+Unreadable p = length p ≤ 64 → Permutation (length p) p → ⊥
+
+-- a permutation of at most 64 wires, with tables of its entries and of its inverse
+pub record Tabled (p entries inverse : List ℕ) : Type 0 where
+  pub narrow : length p ≤ 64
+  pub permutation : Permutation (length p) p
+  pub same : (x : ℕ) → x < length p → at entries x ≡ at p x
+  pub back : Inverse (length p) (at p) (at inverse)
+
 -- the other wire of a comparator, for one of its two wires
 abbrev pub crossed : Comparator → ℕ → ℕ
 crossed c x = cond (eqb x (c .first)) (c .second) (cond (eqb x (c .second)) (c .first) x)

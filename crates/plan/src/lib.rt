@@ -7,7 +7,7 @@ ghost use Rattle.std.specs.declared.option.Option.the-variants.{None};
 ghost use Rattle.std.specs.Options.{Cases as BySome};
 ghost use Rattle.std.specs.Results.{isOk};
 ghost use Rattle.plan.specs.declared.Comparator.{Comparator};
-ghost use Rattle.plan.specs.Plans.{setting-number, turned, run, nth, at, Lawful, Permutation, Inverse, Routed, Ran, Brings};
+ghost use Rattle.plan.specs.Plans.{setting-number, turned, run, nth, at, Lawful, Permutation, Inverse, Unreadable, Tabled, Routed, Ran, Brings};
 ghost use Rattle.plan.specs.Sums.{Sums-along-routes};
 use refusal::Reason;
 use refusal::Refusal;
@@ -90,12 +90,44 @@ pub fn run_plan<P: Plan, T>(plan: &P, settings: &[Setting], items: &mut [T]) -> 
     Ok(())
 }
 
+// A permutation of at most 64 wires and its inverse, as tables whose first entries count.
+#[derive(Clone, Copy)]
+pub struct Shuffle {
+    pub entries: [usize; 64],
+    pub inverse: [usize; 64],
+}
+
+impl Shuffle {
+    // Reads a permutation; none where the entries are not the numbers below their count, or are more than 64.
+    pub fn read(permutation: &[usize]) -> Option<Shuffle>
+        ensures { λ r. ⌜ BySome r (Unreadable (now (permutation .entry))) (λ s. Tabled (now (permutation .entry)) (s .entries) (s .inverse)) ⌝ }
+    {
+        match inverted(permutation) {
+            Some(inverse) => Some(Shuffle {
+                entries: copied(permutation),
+                inverse,
+            }),
+            None => None,
+        }
+    }
+}
+
+// The entries in the first places of a table.
+fn copied(entries: &[usize]) -> [usize; 64]
+    requires { ⌜ length (now entries) ≤ 64 ⌝ }
+    ensures { λ r. ⌜ ((x : ℕ) → x < length (now (entries .entry)) → at r x ≡ at (now (entries .entry)) x) ⌝ }
+{
+    let mut table = [0; 64];
+    table[0..entries.len()].copy_from_slice(entries);
+    table
+}
+
 // What stands in a table of wires where no wire is named.
 const NONE: usize = 64;
 
-// The inverse of a permutation of at most 64 wires; none where the entries are no such permutation.
-pub fn inverted(permutation: &[usize]) -> Option<[usize; 64]>
-    ensures { λ r. ⌜ BySome r (length (now (permutation .entry)) ≤ 64 → Permutation (length (now (permutation .entry))) (now (permutation .entry)) → ⊥) (λ q. (length (now (permutation .entry)) ≤ 64) × Permutation (length (now (permutation .entry))) (now (permutation .entry)) × Inverse (length (now (permutation .entry))) (at (now (permutation .entry))) (at q)) ⌝ }
+// The inverse of a permutation, with a wire entered for each entry that was not there before.
+fn inverted(permutation: &[usize]) -> Option<[usize; 64]>
+    ensures { λ r. ⌜ BySome r (Unreadable (now (permutation .entry))) (λ q. (length (now (permutation .entry)) ≤ 64) × Permutation (length (now (permutation .entry))) (now (permutation .entry)) × Inverse (length (now (permutation .entry))) (at (now (permutation .entry))) (at q)) ⌝ }
 {
     if permutation.len() > 64 {
         return None;

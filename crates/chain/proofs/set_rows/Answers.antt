@@ -11,7 +11,7 @@ use Rattle.plan.specs.declared.Setting.{Setting}
 use Rattle.plan.specs.Plans.{at}
 use Rattle.plan.proofs.Places.{length-part, length-put}
 use Rattle.chain.specs.Stages.{hit}
-use Rattle.chain.proofs.Routing.{Goes, chain-left, none-left, shuffle-more, goes-more, goes-all}
+use Rattle.chain.proofs.Routing.{Goes, chain-left, none-left, permutes-more, goes-more, goes-all}
 use Rattle.chain.proofs.set_rows.Needs as need
 
 pub part-set-row-end : need.part-set-row-end
@@ -28,7 +28,7 @@ loop-j-again c =
     let t = length-put (c .loop-j .settings) (c .set-row .last .row) (c .loop-j .start) (c .args .wires - 1 - c .loop-j .j) (omega arith) n in (
       c .rename .kept .entries ∙ i0,
       omega arith,
-      shuffle-more (c .loop-j .j) (c .args .wires) (at (c .loop-j .wanted)) _ (c .loop-j-test .taken) (c .loop-j .inv .2) (λ x h. c .rename .ensures x (omega arith)),
+      permutes-more (c .loop-j .j) (c .args .wires) (at (c .loop-j .wanted)) _ (c .loop-j-test .taken) (c .loop-j .inv .2) (λ x h. c .rename .ensures x (omega arith)),
       goes-more (c .loop-j .j) (c .args .wires) (at (c .loop-j .wanted)) _ _ _ _ (c .loop-j-test .taken) (c .loop-j .inv .2) (λ x h. c .rename .ensures x (omega arith))
           (take-putMid (c .loop-j .start) _ (c .loop-j .settings) (c .set-row .last .row) _ (omega arith) (omega arith) ∙ ap (λ z. take (c .loop-j .start) (c .loop-j .settings) ++ z) r)
           (c .loop-j .inv .3),

@@ -9,9 +9,10 @@ use Rattle.chain.proofs.ChainPlan.route.Needs as need
 pub returns : need.returns
 returns c =
     let l = chain-lawful (c .args .self .now .wires) (c .args .self .now .fits) in
+    let s = c .in-Some .ensures tt in
     let v : Permutation (c .args .self .now .wires) (c .args .permutation .now) =
-    subst (λ (n : ℕ). Permutation n (c .args .permutation .now)) (c .if-permutation-self .left) (c .in-Some .ensures tt .1) in (
+    subst (λ (n : ℕ). Permutation n (c .args .permutation .now)) (c .if-permutation-self .left) (s .permutation) in (
       v,
       brings-from _ _ _ _ (l .within) (c .set-rows .kept .settings ∙ c .if-settings-count .left ∙ c .count .ensures) (v .long)
-          (λ x h. c .set-rows .ensures x (omega arith) (omega arith) ∙ c .copied-wanted .ensures x (omega arith)),
+          (λ x h. c .set-rows .ensures x (omega arith) (omega arith) ∙ s .same x (omega arith)),
     )

@@ -1,9 +1,9 @@
 use mathlib.Core.Path.{_∙_, ap}
 use native.Mathlib.Omega.{arith}
 use lib.ListN.{length}
 use Rattle.plan.specs.Plans.{at}
 use Rattle.std.proofs.shelf.Lists.{getD-append-left}
-use Rattle.chain.proofs.copied.Needs as need
+use Rattle.plan.proofs.copied.Needs as need
 
 pub returns : need.returns
 returns c x h =
