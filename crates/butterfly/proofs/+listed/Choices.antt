@@ -1,0 +1,4 @@
+use Rattle.butterfly.proofs.+listed.Given as given
+
+abbrev pub μ-listed : given.MeasureT-listed
+μ-listed l = l .levels

@@ -1,0 +1,122 @@
+ghost use Prim.Native.Nat.{ℕ, _+_, _-_, _*_, _<_, _≤_};
+ghost use mathlib.Core.Path.{_≡_};
+ghost use mathlib.Core.List.{List, map};
+ghost use lib.ListN.{length};
+ghost use Rattle.std.specs.Iters.{counting};
+ghost use Rattle.std.specs.Results.{Cases};
+ghost use Rattle.plan.specs.Plans.{nth, at, on, crossed, Routed};
+ghost use Rattle.chain.specs.Listing.{chain, Fits, Unfit};
+ghost use Rattle.chain.specs.Stages.{hit, Permutes, Brings-from};
+use plan::Comparator;
+use plan::Plan;
+use plan::Setting;
+use plan::Shuffle;
+use refusal::Reason;
+use refusal::Refusal;
+
+// The plan in which every two wires meet once.
+#[derive(Clone, Copy)]
+pub struct Chain {
+    wires: usize,
+    ghost fits: { Fits wires },
+}
+
+impl Chain {
+    // The chain over 2 to 64 wires.
+    pub fn new(wires: usize) -> Result<Chain, Refusal>
+        ensures { λ r. ⌜ Cases r (λ c. (c .wires ≡ wires) × (2 * length (chain wires) + wires ≡ wires * wires)) (Unfit wires) ⌝ }
+    {
+        if wires < 2 || wires > 64 {
+            return Err(Reason::UnfitWires.at(0));
+        }
+        Ok(Chain { wires })
+    }
+}
+
+pub impl Plan for Chain as ChainPlan {
+    ghost width = { λ c. c .wires };
+
+    ghost listing = { λ c. chain (c .wires) };
+
+    fn wires(&self) -> usize {
+        self.wires
+    }
+
+    fn count(&self) -> usize {
+        self.wires * (self.wires - 1) / 2
+    }
+
+    fn comparator(&self, k: usize) -> Option<Comparator> {
+        let mut left = k;
+        for first in 0..self.wires {
+            let row = self.wires - 1 - first;
+            if left < row {
+                return Some(Comparator {
+                    first,
+                    second: first + 1 + left,
+                });
+            }
+            left -= row;
+        }
+        None
+    }
+
+    fn route(&self, permutation: &[usize], settings: &mut [Setting]) -> Result<(), Refusal> {
+        if permutation.len() != self.wires || settings.len() != self.count() {
+            return Err(Reason::UnfitLength.at(0));
+        }
+        let Some(shuffle) = Shuffle::read(permutation) else {
+            return Err(Reason::NoPermutation.at(0));
+        };
+        let mut wanted = shuffle.entries;
+        set_rows(&mut wanted, self.wires, settings);
+        Ok(())
+    }
+}
+
+// Sets the row of a wire for the item that stands on another wire after it, or on itself.
+fn set_row(row: &mut [Setting], first: usize, from: usize)
+    requires { ⌜ first + length (now row) < 64 ⌝ }
+    ensures { λ _. ⌜ now (row .exit) ≡ map (hit from) (counting (first + 1) (length (now (row .entry)))) ⌝ }
+{
+    for i in 0..row.len() {
+        row[i] = if first + 1 + i == from {
+            Setting::Swapped
+        } else {
+            Setting::Straight
+        };
+    }
+}
+
+// Exchanges two numbers wherever they stand.
+fn rename(entries: &mut [usize], one: usize, other: usize)
+    ensures { λ _. ⌜ ((x : ℕ) → x < length (now (entries .entry)) → at (now (entries .exit)) x ≡ crossed (on one other) (at (now (entries .entry)) x)) ⌝ }
+{
+    for x in 0..entries.len() {
+        let y = entries[x];
+        entries[x] = if y == one {
+            other
+        } else if y == other {
+            one
+        } else {
+            y
+        };
+    }
+}
+
+// Row by row: the item wanted on a wire is brought there, and the wanted entries then name the wires as they are.
+fn set_rows(wanted: &mut [usize; 64], wires: usize, settings: &mut [Setting])
+    requires narrow { ⌜ wires ≤ 64 ⌝ }
+    requires permutes { ⌜ Permutes 0 wires (at (now wanted)) ⌝ }
+    requires places { ⌜ length (now settings) ≡ length (chain wires) ⌝ }
+    ensures { λ _. ⌜ Brings-from 0 wires (now (settings .exit)) (at (now (wanted .entry))) ⌝ }
+{
+    let mut start = 0;
+    for j in 0..wires {
+        let row = wires - 1 - j;
+        let from = wanted[j];
+        set_row(&mut settings[start..start + row], j, from);
+        rename(wanted, j, from);
+        start += row;
+    }
+}

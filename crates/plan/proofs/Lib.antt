@@ -1,0 +1,5 @@
+pub mod Running
+pub mod Onto
+pub mod Marks
+pub mod Totals
+pub mod Places
