@@ -15,7 +15,7 @@ use Rattle.refusal.specs.declared.Refusal.{Refusal}
 use Rattle.source.specs.Words.{Words}
 use Rattle.equivalence.specs.Equations.{folded-key, folded-quotient, accepted}
 use Rattle.equivalence.specs.Judgement.{numbers-fit, Draws, draws, judge, equivalence-test, split-test, first-test, second-test, judge-equations, answered}
-use Rattle.equivalence.specs.declared.comparison.Comparison.{Comparison}
+use Rattle.posting.specs.declared.comparison.Comparison.{Comparison}
 use Rattle.equivalence.specs.declared.proofs.Proofs.{Proofs}
 
 module _ {P : Type 0} (X : Type 0) (G : Operations P) (k : Comparison P) (p : Proofs P ℕ) (d : Draws) (place : ℕ) (f : Refusal) where
@@ -42,13 +42,13 @@ module _ {P : Type 0} (G : Operations P) (k : Comparison P) (p : Proofs P ℕ) (
 
   -- the branches' tests, at the folded key that was computed for both
   pub first-at : (folded : P) (r : Bool) → folded ≡ folded-key G (k .key) (d .disjunction-z)
-    → r ≡ accepted G folded (folded-quotient G (k .inputs .first) (k .outputs .first) (d .disjunction-z)) (p .disjunction .first .commitment) (p .disjunction .first .challenge) (p .disjunction .first .answer)
-    → first-test G k p d ≡ r
+      → r ≡ accepted G folded (folded-quotient G (k .inputs .first) (k .outputs .first) (d .disjunction-z)) (p .disjunction .first .commitment) (p .disjunction .first .challenge) (p .disjunction .first .answer)
+      → first-test G k p d ≡ r
   first-at folded r e is = sym (is ∙ ap (λ f. accepted G f (folded-quotient G (k .inputs .first) (k .outputs .first) (d .disjunction-z)) (p .disjunction .first .commitment) (p .disjunction .first .challenge) (p .disjunction .first .answer)) e)
 
   pub second-at : (folded : P) (r : Bool) → folded ≡ folded-key G (k .key) (d .disjunction-z)
-    → r ≡ accepted G folded (folded-quotient G (k .inputs .first) (k .outputs .second) (d .disjunction-z)) (p .disjunction .second .commitment) (p .disjunction .second .challenge) (p .disjunction .second .answer)
-    → second-test G k p d ≡ r
+      → r ≡ accepted G folded (folded-quotient G (k .inputs .first) (k .outputs .second) (d .disjunction-z)) (p .disjunction .second .commitment) (p .disjunction .second .challenge) (p .disjunction .second .answer)
+      → second-test G k p d ≡ r
   second-at folded r e is = sym (is ∙ ap (λ f. accepted G f (folded-quotient G (k .inputs .first) (k .outputs .second) (d .disjunction-z)) (p .disjunction .second .commitment) (p .disjunction .second .challenge) (p .disjunction .second .answer)) e)
 
 -- the conditions before the equations

@@ -18,9 +18,9 @@ use Rattle.refusal.specs.declared.Reason.the-variants.{UnfitLength, UnfitNumber
 use Rattle.refusal.specs.declared.Refusal.{Refusal}
 use Rattle.source.specs.Words.{Words, z-of, c-of}
 use Rattle.equivalence.specs.Equations.{folded-key, folded-quotient, Accepted, accepted}
-use Rattle.equivalence.specs.Comparison.{posted}
-use Rattle.equivalence.specs.Posting.{codes}
-use Rattle.equivalence.specs.declared.comparison.Comparison.{Comparison}
+use Rattle.posting.specs.Comparison.{posted}
+use Rattle.posting.specs.Posting.{codes}
+use Rattle.posting.specs.declared.comparison.Comparison.{Comparison}
 use Rattle.equivalence.specs.declared.proofs.Branch.{Branch}
 use Rattle.equivalence.specs.declared.proofs.Proofs.{Proofs}
 
@@ -99,10 +99,6 @@ module _ {Point : Type 0} (G : Operations Point) where
   unfoldable pub judge : Exponents → Words → Comparison Point → Proofs Point ℕ → ℕ → Option Reason
   judge E S k p first =
       unless (numbers-fit E p) UnfitNumber (unless (ltb (first + 3) (S .reach)) BeyondReach (judge-equations k p (draws E S k p first)))
-
-  -- a posting buffer has room for eleven codes
-  abbrev pub buffer-fits : ℕ → Bool
-  buffer-fits bytes = leb (11 * G .width) bytes
 
 -- what a call that is judged answers at a place
 abbrev pub answered : {X : Type 0} → Option Reason → ℕ → Result X Refusal → Type 0

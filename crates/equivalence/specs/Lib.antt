@@ -1,6 +1,3 @@
-pub mod Comparison
-pub mod Posting
-pub mod Commitments
 pub mod Equations
 pub mod Judgement
 pub mod Drawing

@@ -5,19 +5,17 @@ ghost use mathlib.Core.Path.{_≡_};
 ghost use lib.ListN.{length};
 ghost use Rattle.clearing.specs.Zeros.{zeros};
 ghost use Rattle.std.specs.Results.{Cases};
-ghost use Rattle.equivalence.specs.Comparison.{comparison-meaning};
-ghost use Rattle.equivalence.specs.Judgement.{branch-meaning, proofs-meaning, branch-fits, numbers-fit, draws, equivalence-accepted, judge-equations, judge, buffer-fits, unless, answered};
+ghost use Rattle.posting.specs.Comparison.{comparison-meaning};
+ghost use Rattle.equivalence.specs.Judgement.{branch-meaning, proofs-meaning, branch-fits, numbers-fit, draws, equivalence-accepted, judge-equations, judge, unless, answered};
 ghost use Rattle.equivalence.specs.Equations.{folded-quotient, accepted};
 ghost use Rattle.elgamal.specs.Ciphertexts.{meaning};
 ghost use Rattle.equivalence.specs.Drawing.{draws-meaning};
+ghost use Rattle.posting.specs.Drawing.{buffer-fits};
 ghost use Rattle.refusal.specs.Table.{refused-at};
 ghost use Rattle.refusal.specs.declared.Reason.the-variants.{UnfitLength, UnfitNumber, BeyondReach};
-use crate::comparison::Comparison;
 use crate::equation::accepts;
 use crate::equation::fold_key;
 use crate::equation::fold_quotient;
-use crate::posting::Commitments;
-use crate::posting::draw_over;
 use crate::proofs::Branch;
 use crate::proofs::DisjunctiveProof;
 use crate::proofs::EquivalenceProof;
@@ -30,6 +28,9 @@ use group::Exponent;
 use group::Group;
 use group::reading::read_challenge;
 use group::reading::read_exponent;
+use posting::comparison::Comparison;
+use posting::drawing::Commitments;
+use posting::drawing::draw_over;
 use refusal::Reason;
 use refusal::Refusal;
 use source::Source;
@@ -110,15 +111,53 @@ fn draw_all<G: Group, S: Source>(
     if first.saturating_add(3) >= source.reach() {
         return Err(Reason::BeyondReach.at(place));
     }
-    let Proofs { equivalence, disjunction } = proofs;
-    let DisjunctiveProof { first: b1, second: b2 } = disjunction;
-    let word = draw_over(g, source, comparison, Commitments::None, first, buffer, place)?;
+    let Proofs {
+        equivalence,
+        disjunction,
+    } = proofs;
+    let DisjunctiveProof {
+        first: b1,
+        second: b2,
+    } = disjunction;
+    let word = draw_over(
+        g,
+        source,
+        comparison,
+        Commitments::None,
+        first,
+        buffer,
+        place,
+    )?;
     let equivalence_z = z_of::<G::Exponent>(word);
-    let word = draw_over(g, source, comparison, Commitments::One(equivalence.commitment), first + 1, buffer, place)?;
+    let word = draw_over(
+        g,
+        source,
+        comparison,
+        Commitments::One(equivalence.commitment),
+        first + 1,
+        buffer,
+        place,
+    )?;
     let equivalence_c = c_of::<G::Exponent>(word);
-    let word = draw_over(g, source, comparison, Commitments::None, first + 2, buffer, place)?;
+    let word = draw_over(
+        g,
+        source,
+        comparison,
+        Commitments::None,
+        first + 2,
+        buffer,
+        place,
+    )?;
     let disjunction_z = z_of::<G::Exponent>(word);
-    let word = draw_over(g, source, comparison, Commitments::Two(b1.commitment, b2.commitment), first + 3, buffer, place)?;
+    let word = draw_over(
+        g,
+        source,
+        comparison,
+        Commitments::Two(b1.commitment, b2.commitment),
+        first + 3,
+        buffer,
+        place,
+    )?;
     let disjunction_c = c_of::<G::Exponent>(word);
     Ok(Draws {
         equivalence_z,

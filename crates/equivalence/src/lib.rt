@@ -1,6 +1,4 @@
 // The two plaintext-equivalence proofs of a comparator: their check, and their honest maker.
 pub mod check;
-pub mod comparison;
 pub mod equation;
-mod posting;
 pub mod proofs;

@@ -1,7 +1,7 @@
 use mathlib.Core.Path.{_≡_, ap, sym, subst, _∙_}
 use Rattle.std.proofs.shelf.Results.{err-from-errBy}
 use Rattle.equivalence.proofs.Judging.{numbers-fail, reach-fails, equations-left}
-use Rattle.equivalence.specs.Comparison.{comparison-meaning}
+use Rattle.posting.specs.Comparison.{comparison-meaning}
 use Rattle.equivalence.specs.Judgement.{proofs-meaning, draws, judge-equations, answered}
 use Rattle.equivalence.proofs.check.check_within.Needs as need
 
@@ -37,6 +37,6 @@ returns g c =
     let same : proofs-meaning point value (c .in-Continue-proofs .proofs) ≡ posted = ap (proofs-meaning point (λ n. n)) (read .1) in
     let judged = equations-left G (g .Exponent·Exponent .exponents) S k posted (c .args .first) (read .0) (drawn .0) in
     let all : judge-equations G k (proofs-meaning point value (c .in-Continue-proofs .proofs)) _ ≡ judge-equations G k posted (draws G (g .Exponent·Exponent .exponents) S k posted (c .args .first)) =
-      ap (judge-equations G k (proofs-meaning point value (c .in-Continue-proofs .proofs))) (drawn .1)
-      ∙ ap (λ p. judge-equations G k p (draws G (g .Exponent·Exponent .exponents) S k p (c .args .first))) same in
+    ap (judge-equations G k (proofs-meaning point value (c .in-Continue-proofs .proofs))) (drawn .1)
+    ∙ ap (λ p. judge-equations G k p (draws G (g .Exponent·Exponent .exponents) S k p (c .args .first))) same in
     subst (λ j. answered j (c .args .place) (c .check-equations .result)) (all ∙ sym judged) (c .check-equations .ensures)

@@ -1,9 +1,9 @@
 use mathlib.Core.Path.{_≡_, subst, sym, _∙_}
 use mathlib.Core.List.{List}
 use Prim.Native.Nat.{ℕ}
-use Rattle.equivalence.proofs.Appending.{appended-both, front}
+use Rattle.posting.proofs.Appending.{appended-both, front}
 use Rattle.source.specs.Words.{Drawn}
-use Rattle.equivalence.proofs.posting.draw_over.Needs as need
+use Rattle.posting.proofs.drawing.draw_within.Needs as need
 
 pub returns : need.returns
 returns g c =

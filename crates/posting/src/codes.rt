@@ -1,20 +1,16 @@
-// Challenges drawn over posted elements. Prover and checker both draw by these functions, so that
-// they meet the same challenge.
+// Codes written one after another into the posting buffer.
 ghost use Prim.Native.Nat.{_+_, _*_, _≤_};
 ghost use mathlib.Core.List.{[], _∷_};
 ghost use lib.ListN.{length};
 ghost use Rattle.elgamal.specs.Ciphertexts.{meaning};
-ghost use Rattle.equivalence.specs.Comparison.{pair-meaning, comparison-meaning, ciphertext-points, pair-points, posted};
-ghost use Rattle.equivalence.specs.Commitments.{commitment-points};
-ghost use Rattle.equivalence.specs.Posting.{codes, Appended};
-ghost use Rattle.source.specs.Words.{Drawn};
+ghost use Rattle.posting.specs.Comparison.{pair-meaning, comparison-meaning, ciphertext-points, pair-points, posted};
+ghost use Rattle.posting.specs.Commitments.{commitment-points};
+ghost use Rattle.posting.specs.Posting.{Appended};
 use crate::comparison::Comparison;
 use crate::comparison::Pair;
+use crate::drawing::Commitments;
 use elgamal::Ciphertext;
 use group::Group;
-use refusal::Refusal;
-use source::Source;
-use source::draw;
 
 // Writes an element's code to the buffer at a place, and answers where it ends.
 fn post_element<G: Group>(g: &G, element: G::Element, buffer: &mut [u8], at: usize) -> usize
@@ -48,7 +44,11 @@ fn post_pair<G: Group>(g: &G, pair: Pair<G::Element>, buffer: &mut [u8], at: usi
 }
 
 // Writes the codes of the key, inputs and outputs to the buffer's front.
-fn post_comparison<G: Group>(g: &G, comparison: Comparison<G::Element>, buffer: &mut [u8]) -> usize
+pub(crate) fn post_comparison<G: Group>(
+    g: &G,
+    comparison: Comparison<G::Element>,
+    buffer: &mut [u8],
+) -> usize
     requires { ⌜ 9 * G·Group .operations .width ≤ length (now buffer) ⌝ }
     ensures { λ r. ⌜ Appended (G·Group .operations) (posted (comparison-meaning (G·Group .point) comparison) []) 0 r (now (buffer .entry)) (now (buffer .exit)) ⌝ }
 {
@@ -57,16 +57,7 @@ fn post_comparison<G: Group>(g: &G, comparison: Comparison<G::Element>, buffer: 
     post_pair(g, comparison.outputs, buffer, end)
 }
 
-// What a challenge is drawn over beside the comparison: no commitment for a z, one for the
-// equivalence proof's challenge, two for the disjunctive proof's.
-#[derive(Clone, Copy)]
-pub(crate) enum Commitments<E> {
-    None,
-    One(E),
-    Two(E, E),
-}
-
-fn post_commitments<G: Group>(
+pub(crate) fn post_commitments<G: Group>(
     g: &G,
     commitments: Commitments<G::Element>,
     buffer: &mut [u8],
@@ -83,22 +74,4 @@ fn post_commitments<G: Group>(
             post_element(g, w2, buffer, end)
         }
     }
-}
-
-// The word drawn over the codes of a comparison and its commitments.
-pub(crate) fn draw_over<G: Group, S: Source>(
-    g: &G,
-    source: &S,
-    comparison: Comparison<G::Element>,
-    commitments: Commitments<G::Element>,
-    question: u64,
-    buffer: &mut [u8],
-    place: usize,
-) -> Result<u64, Refusal>
-    requires { ⌜ 11 * G·Group .operations .width ≤ length (now buffer) ⌝ }
-    ensures { λ r. ⌜ Drawn (S·Source .words (now (source .entry))) question (codes (G·Group .operations) (posted (comparison-meaning (G·Group .point) comparison) (commitment-points (G·Group .point) commitments))) place r ⌝ }
-{
-    let end = post_comparison(g, comparison, buffer);
-    let end = post_commitments(g, commitments, buffer, end);
-    draw(source, question, &buffer[0..end], place)
 }

@@ -2,8 +2,8 @@
 use mathlib.Core.List.{List, [], _∷_}
 use Rattle.elgamal.specs.Ciphertexts.{meaning}
 use Rattle.elgamal.specs.declared.Ciphertext.{Ciphertext}
-use Rattle.equivalence.specs.declared.comparison.Comparison.{Comparison}
-use Rattle.equivalence.specs.declared.comparison.Pair.{Pair}
+use Rattle.posting.specs.declared.comparison.Comparison.{Comparison}
+use Rattle.posting.specs.declared.comparison.Pair.{Pair}
 
 -- what ciphertexts of elements mean: those of points
 abbrev pub pair-meaning : {Element Point : Type 0} → (Element → Point) → Pair Element → Pair Point

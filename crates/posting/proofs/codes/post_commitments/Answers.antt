@@ -1,8 +1,8 @@
 use mathlib.Core.Path.{sym, subst}
-use Rattle.equivalence.proofs.Appending.{appended-both, appended-none}
-use Rattle.equivalence.proofs.posting.post_commitments.Needs as need
-use Rattle.equivalence.specs.Commitments.{commitment-points}
-use Rattle.equivalence.specs.Posting.{Appended}
+use Rattle.posting.proofs.Appending.{appended-both, appended-none}
+use Rattle.posting.proofs.codes.post_commitments.Needs as need
+use Rattle.posting.specs.Commitments.{commitment-points}
+use Rattle.posting.specs.Posting.{Appended}
 
 pub returns-in-None : need.returns-in-None
 returns-in-None g c =

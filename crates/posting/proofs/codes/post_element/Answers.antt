@@ -4,8 +4,8 @@ use Prim.Native.Nat.{ℕ, _+_}
 use native.Mathlib.Omega.{arith}
 use lib.ListN.{length, take}
 use Rattle.std.proofs.shelf.Parts.{take-putMid}
-use Rattle.equivalence.proofs.Appending.{codes-one, written-fits}
-use Rattle.equivalence.proofs.posting.post_element.Needs as need
+use Rattle.posting.proofs.Appending.{codes-one, written-fits}
+use Rattle.posting.proofs.codes.post_element.Needs as need
 
 pub returns : need.returns
 returns g c =

@@ -9,7 +9,7 @@ use Rattle.group.specs.Codes.{Written}
 use Rattle.group.specs.Operations.{Operations}
 use Rattle.std.specs.declared.result.Result.{Result}
 use Rattle.std.specs.declared.result.Result.the-variants.{Ok, Err}
-use Rattle.equivalence.specs.Posting.{codes, Appended}
+use Rattle.posting.specs.Posting.{codes, Appended}
 
 pub codes-append : {P : Type 0} (G : Operations P) (xs ys : List P) → codes G (xs ++ ys) ≡ codes G xs ++ codes G ys
 unfolding codes

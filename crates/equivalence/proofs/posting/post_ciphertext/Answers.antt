@@ -1,5 +1,0 @@
-use Rattle.equivalence.proofs.Appending.{appended-both}
-use Rattle.equivalence.proofs.posting.post_ciphertext.Needs as need
-
-pub returns : need.returns
-returns g c = appended-both (c .post-element-end .ensures) (c .post-element .ensures)

@@ -1,5 +1,0 @@
-use Rattle.equivalence.proofs.Appending.{appended-both}
-use Rattle.equivalence.proofs.posting.post_pair.Needs as need
-
-pub returns : need.returns
-returns g c = appended-both (c .post-ciphertext-end .ensures) (c .post-ciphertext .ensures)

@@ -1,0 +1,4 @@
+pub mod Comparison
+pub mod Posting
+pub mod Commitments
+pub mod Drawing
