@@ -1,1 +1,3 @@
 pub mod Secrets
+pub mod Honest
+pub mod States

@@ -13,6 +13,7 @@ use refusal::{Reason, Refusal};
 
 // The exponents of both re-encryptings, those of both true commitments, and the answer and challenge of the
 // branch that is simulated.
+#[derive(Drop)]
 pub struct Secrets<X> {
     pub r1: X,
     pub r2: X,
