@@ -43,9 +43,9 @@ module _ {Point : Type 0} (G : Operations Point) where
   abbrev pub true-commitment : Comparison Point → ℕ → ℕ → Point
   true-commitment k z e = power G (folded-key G (k .key) z) e
 
-  abbrev pub simulated-commitment : Comparison Point → Setting → ℕ → Secrets ℕ → Point
-  simulated-commitment k setting z s =
-      quotient G (power G (folded-key G (k .key) z) (s .answer)) (power G (folded-quotient G (k .inputs .first) (simulated-output k setting) z) (s .challenge))
+  abbrev pub simulated-commitment : Comparison Point → Setting → (z answer challenge : ℕ) → Point
+  simulated-commitment k setting z answer challenge =
+      quotient G (power G (folded-key G (k .key) z) answer) (power G (folded-quotient G (k .inputs .first) (simulated-output k setting) z) challenge)
 
   -- both z, drawn at the questions `first` and first + 2
   abbrev pub equivalence-z : Exponents → Words → Comparison Point → ℕ → ℕ
@@ -60,11 +60,11 @@ module _ {Point : Type 0} (G : Operations Point) where
 
   abbrev pub first-commitment : Exponents → Words → Comparison Point → Setting → Secrets ℕ → ℕ → Point
   first-commitment E S k setting s first =
-      by-setting setting (true-commitment k (disjunction-z E S k first) (s .disjunction)) (simulated-commitment k setting (disjunction-z E S k first) s)
+      by-setting setting (true-commitment k (disjunction-z E S k first) (s .disjunction)) (simulated-commitment k setting (disjunction-z E S k first) (s .answer) (s .challenge))
 
   abbrev pub second-commitment : Exponents → Words → Comparison Point → Setting → Secrets ℕ → ℕ → Point
   second-commitment E S k setting s first =
-      by-setting setting (simulated-commitment k setting (disjunction-z E S k first) s) (true-commitment k (disjunction-z E S k first) (s .disjunction))
+      by-setting setting (simulated-commitment k setting (disjunction-z E S k first) (s .answer) (s .challenge)) (true-commitment k (disjunction-z E S k first) (s .disjunction))
 
   -- the answer e + c·r
   abbrev pub answer-of : Exponents → ℕ → ℕ → ℕ → ℕ
