@@ -35,7 +35,7 @@ module _ {P : Type 0} {G : Operations P} (laws : GroupLaws G) where
       ((pt 0 ^ var 0 · pt 1) ^ (var 1 ⊕ var 2)) [] tt refl
 
   -- a true answer is accepted
-  pub true-accepted : (E : Exponents) → G .order ≡ E .order → (key quotient : P) (e c r : ℕ) → quotient ≡ power G key r → Accepted G key quotient (power G key e) c (answer-of G E e c r)
+  pub true-accepted : (E : Exponents) → G .order ≡ E .order → (key quotient : P) (e c r : ℕ) → quotient ≡ power G key r → Accepted G key quotient (power G key e) c (answer-of E e c r)
   true-accepted E same key quotient e c r h =
       let q = G .order in
       ap (λ (n : ℕ). power G key ((e + (c * r) % n) % n)) (sym same)

@@ -1,6 +1,5 @@
 -- What an honest comparator posts is taken, at the same draws.
 use mathlib.Core.Bool.{true}
-use mathlib.Core.List.{[], _∷_}
 use mathlib.Core.Path.{_≡_, sym, ap, _∙_}
 use Prim.Native.Nat.{ℕ, _+_, _^_, _%_, _<_, _≤_}
 use native.Mathlib.Nat.{mod-lt}
@@ -19,12 +18,10 @@ use Rattle.group.specs.Exponents.{Exponents, ExponentLaws, sum}
 use Rattle.group.specs.Operations.{Operations, GroupLaws, power}
 use Rattle.plan.specs.declared.Setting.{Setting}
 use Rattle.plan.specs.declared.Setting.the-variants.{Straight, Swapped}
-use Rattle.posting.specs.Comparison.{posted}
-use Rattle.posting.specs.Posting.{codes}
 use Rattle.posting.specs.declared.comparison.Pair.{Pair}
 use Rattle.source.specs.Words.{Words, c-of}
 use Rattle.prover.proofs.Accepting.{quotient-power, product-power, product-swapped, true-accepted, sum-power, simulated-accepted}
-use Rattle.prover.specs.Honest.{honest-comparison, honest-proofs, equivalence-z, disjunction-z, first-commitment, second-commitment}
+use Rattle.prover.specs.Honest.{honest-comparison, honest-proofs, equivalence-z, disjunction-z, disjunction-challenge, first-commitment, second-commitment}
 use Rattle.prover.specs.declared.secrets.Secrets.{Secrets}
 
 -- a challenge that is split in two is put together again
@@ -60,7 +57,7 @@ module _ {P : Type 0} {G : Operations P} (laws : GroupLaws G) (E : Exponents) (e
       let p = honest-proofs G E S k Straight s first in
       let z = equivalence-z G E S k first in
       let z′ = disjunction-z G E S k first in
-      let c′ = c-of E (S .word (first + 3) (codes G (posted k (first-commitment G E S k Straight s first ∷ second-commitment G E S k Straight s first ∷ [])))) in
+      let c′ = disjunction-challenge G E S k (first-commitment G E S k Straight s first) (second-commitment G E S k Straight s first) first in
       let below = λ (n : ℕ). mod-lt n some in
       let split = xor-lt (E .challenge-bits) c′ (s .challenge) (drawn-below _) (fits .challenge-below) in
       equations-left G E S k p first (fit E p (below _) (branch-fit E (p .disjunction .first) split (below _)) (branch-fit E (p .disjunction .second) (fits .challenge-below) (fits .answer-below))) reaches
@@ -74,7 +71,7 @@ module _ {P : Type 0} {G : Operations P} (laws : GroupLaws G) (E : Exponents) (e
       let p = honest-proofs G E S k Swapped s first in
       let z = equivalence-z G E S k first in
       let z′ = disjunction-z G E S k first in
-      let c′ = c-of E (S .word (first + 3) (codes G (posted k (first-commitment G E S k Swapped s first ∷ second-commitment G E S k Swapped s first ∷ [])))) in
+      let c′ = disjunction-challenge G E S k (first-commitment G E S k Swapped s first) (second-commitment G E S k Swapped s first) first in
       let below = λ (n : ℕ). mod-lt n some in
       let split = xor-lt (E .challenge-bits) c′ (s .challenge) (drawn-below _) (fits .challenge-below) in
       equations-left G E S k p first (fit E p (below _) (branch-fit E (p .disjunction .first) (fits .challenge-below) (fits .answer-below)) (branch-fit E (p .disjunction .second) split (below _))) reaches

@@ -1,2 +1,3 @@
 pub mod Accepting
 pub mod Completeness
+pub mod Outcomes

@@ -24,6 +24,31 @@ abbrev pub by-setting : {X : Type 0} → Setting → X → X → X
 by-setting Straight x y = x
 by-setting Swapped x y = y
 
+-- the answer e + c·r
+abbrev pub answer-of : Exponents → ℕ → ℕ → ℕ → ℕ
+answer-of E e c r = sum E e (product E c r)
+
+-- the two branches, for the drawn challenge c: the known one is answered, the other is as it was chosen
+abbrev pub known-branch : {Point : Type 0} → Exponents → Point → Setting → Secrets ℕ → ℕ → Branch Point ℕ
+known-branch E w setting s c = record {
+  commitment = w;
+  challenge = bitXor c (s .challenge);
+  answer = answer-of E (s .disjunction) (bitXor c (s .challenge)) (by-setting setting (s .r1) (s .r2))
+}
+
+abbrev pub simulated-branch : {Point : Type 0} → Point → Secrets ℕ → Branch Point ℕ
+simulated-branch w s = record { commitment = w; challenge = s .challenge; answer = s .answer }
+
+-- the proofs, for the commitments and both drawn challenges
+abbrev pub answered-proofs : {Point : Type 0} → Exponents → Setting → Secrets ℕ → (w w1 w2 : Point) → (c c′ : ℕ) → Proofs Point ℕ
+answered-proofs E setting s w w1 w2 c c′ = record {
+  equivalence = record { commitment = w; answer = answer-of E (s .equivalence) c (sum E (s .r1) (s .r2)) };
+  disjunction = record {
+    first = by-setting setting (known-branch E w1 setting s c′) (simulated-branch w1 s);
+    second = by-setting setting (simulated-branch w2 s) (known-branch E w2 setting s c′)
+  }
+}
+
 module _ {Point : Type 0} (G : Operations Point) where
   -- Straight, each output is the input on its wire; swapped, the one on the other; re-encrypted by r1 and r2.
   abbrev pub honest-outputs : Point → Pair Point → Setting → Secrets ℕ → Pair Point
@@ -54,6 +79,13 @@ module _ {Point : Type 0} (G : Operations Point) where
   abbrev pub disjunction-z : Exponents → Words → Comparison Point → ℕ → ℕ
   disjunction-z E S k first = z-of E (S .word (first + 2) (codes G (posted k [])))
 
+  -- both challenges, drawn over the commitments at the questions first + 1 and first + 3
+  abbrev pub equivalence-challenge : Exponents → Words → Comparison Point → Point → ℕ → ℕ
+  equivalence-challenge E S k w first = c-of E (S .word (first + 1) (codes G (posted k (w ∷ []))))
+
+  abbrev pub disjunction-challenge : Exponents → Words → Comparison Point → Point → Point → ℕ → ℕ
+  disjunction-challenge E S k w1 w2 first = c-of E (S .word (first + 3) (codes G (posted k (w1 ∷ w2 ∷ []))))
+
   -- the commitments: to the equivalence proof, and to each branch
   abbrev pub equivalence-commitment : Exponents → Words → Comparison Point → Secrets ℕ → ℕ → Point
   equivalence-commitment E S k s first = true-commitment k (equivalence-z E S k first) (s .equivalence)
@@ -66,35 +98,10 @@ module _ {Point : Type 0} (G : Operations Point) where
   second-commitment E S k setting s first =
       by-setting setting (simulated-commitment k setting (disjunction-z E S k first) (s .answer) (s .challenge)) (true-commitment k (disjunction-z E S k first) (s .disjunction))
 
-  -- the answer e + c·r
-  abbrev pub answer-of : Exponents → ℕ → ℕ → ℕ → ℕ
-  answer-of E e c r = sum E e (product E c r)
-
-  -- the two branches, for the drawn challenge c: the known one is answered, the other is as it was chosen
-  abbrev pub known-branch : Exponents → Point → Setting → Secrets ℕ → ℕ → Branch Point ℕ
-  known-branch E w setting s c = record {
-    commitment = w;
-    challenge = bitXor c (s .challenge);
-    answer = answer-of E (s .disjunction) (bitXor c (s .challenge)) (by-setting setting (s .r1) (s .r2))
-  }
-
-  abbrev pub simulated-branch : Point → Secrets ℕ → Branch Point ℕ
-  simulated-branch w s = record { commitment = w; challenge = s .challenge; answer = s .answer }
-
-  -- the proofs, for the commitments and both drawn challenges
-  abbrev pub answered-proofs : Exponents → Setting → Secrets ℕ → (w w1 w2 : Point) → (c c′ : ℕ) → Proofs Point ℕ
-  answered-proofs E setting s w w1 w2 c c′ = record {
-    equivalence = record { commitment = w; answer = answer-of E (s .equivalence) c (sum E (s .r1) (s .r2)) };
-    disjunction = record {
-      first = by-setting setting (known-branch E w1 setting s c′) (simulated-branch w1 s);
-      second = by-setting setting (simulated-branch w2 s) (known-branch E w2 setting s c′)
-    }
-  }
-
   -- all that an honest comparator posts as proofs
   abbrev pub honest-proofs : Exponents → Words → Comparison Point → Setting → Secrets ℕ → ℕ → Proofs Point ℕ
   honest-proofs E S k setting s first =
       let w = equivalence-commitment E S k s first in
       let w1 = first-commitment E S k setting s first in
       let w2 = second-commitment E S k setting s first in
-      answered-proofs E setting s w w1 w2 (c-of E (S .word (first + 1) (codes G (posted k (w ∷ []))))) (c-of E (S .word (first + 3) (codes G (posted k (w1 ∷ w2 ∷ [])))))
+      answered-proofs E setting s w w1 w2 (equivalence-challenge E S k w first) (disjunction-challenge E S k w1 w2 first)

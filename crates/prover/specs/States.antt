@@ -1,6 +1,5 @@
 -- The states of an honest comparator, over points and numbers.
 use mathlib.Core.Bool.{Bool, true, false}
-use mathlib.Core.List.{List, [], _∷_}
 use mathlib.Core.Path.{_≡_}
 use Prim.Native.Nat.{ℕ, _+_}
 use lib.Dec.{ltb}
@@ -12,16 +11,15 @@ use Rattle.equivalence.specs.Judgement.{unless, proofs-meaning}
 use Rattle.group.specs.Exponents.{Exponents}
 use Rattle.group.specs.Operations.{Operations}
 use Rattle.plan.specs.declared.Setting.{Setting}
-use Rattle.posting.specs.Comparison.{pair-meaning, comparison-meaning, posted}
+use Rattle.posting.specs.Comparison.{pair-meaning, comparison-meaning}
 use Rattle.posting.specs.Drawing.{buffer-fits}
-use Rattle.posting.specs.Posting.{codes}
 use Rattle.posting.specs.declared.comparison.Pair.{Pair}
 use Rattle.refusal.specs.Table.{refused-at}
 use Rattle.refusal.specs.declared.Reason.{Reason}
 use Rattle.refusal.specs.declared.Reason.the-variants.{UnfitLength, BeyondReach}
 use Rattle.refusal.specs.declared.Refusal.{Refusal}
-use Rattle.source.specs.Words.{Words, c-of}
-use Rattle.prover.specs.Honest.{honest-comparison, honest-proofs, answered-proofs, equivalence-commitment, first-commitment, second-commitment}
+use Rattle.source.specs.Words.{Words}
+use Rattle.prover.specs.Honest.{honest-comparison, honest-proofs, answered-proofs, equivalence-challenge, disjunction-challenge, equivalence-commitment, first-commitment, second-commitment}
 use Rattle.prover.specs.Secrets.{secrets-meaning}
 use Rattle.prover.specs.declared.secrets.Secrets.{Secrets}
 use Rattle.prover.specs.declared.states.OutputsMade.{OutputsMade}
@@ -69,9 +67,9 @@ module _ {Point : Type 0} (G : Operations Point) where
   abbrev pub answer-message : Exponents → Words → Committed Point ℕ → Message Point ℕ
   answer-message E S c = record {
     outputs = c .made .comparison .outputs;
-    proofs = answered-proofs G E (c .made .setting) (c .made .secrets) (c .equivalence) (c .first) (c .second)
-      (c-of E (S .word (c .question + 1) (codes G (posted (c .made .comparison) (c .equivalence ∷ [])))))
-      (c-of E (S .word (c .question + 3) (codes G (posted (c .made .comparison) (c .first ∷ c .second ∷ [])))))
+    proofs = answered-proofs E (c .made .setting) (c .made .secrets) (c .equivalence) (c .first) (c .second)
+      (equivalence-challenge G E S (c .made .comparison) (c .equivalence) (c .question))
+      (disjunction-challenge G E S (c .made .comparison) (c .first) (c .second) (c .question))
   }
 
   -- all that an honest comparator posts

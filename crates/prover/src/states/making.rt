@@ -1,10 +1,10 @@
 // Making an honest comparator's outputs, its commitments and its answers.
-ghost use Prim.Native.Nat.{ℕ};
 ghost use mathlib.Core.Path.{_≡_};
 ghost use lib.ListN.{length};
 ghost use Rattle.clearing.specs.Zeros.{zeros};
+ghost use Rattle.equivalence.specs.Judgement.{proofs-meaning};
 ghost use Rattle.posting.specs.Comparison.{pair-meaning, comparison-meaning};
-ghost use Rattle.prover.specs.Honest.{by-setting, equivalence-z, disjunction-z, true-commitment, simulated-commitment};
+ghost use Rattle.prover.specs.Honest.{by-setting, answer-of, answered-proofs, equivalence-challenge, disjunction-challenge, equivalence-z, disjunction-z, true-commitment, simulated-commitment};
 ghost use Rattle.prover.specs.Secrets.{secrets-meaning};
 ghost use Rattle.std.specs.Results.{Cases};
 ghost use Rattle.prover.specs.States.{made-meaning, committed-meaning, message-meaning, outputs-made, committed, answer-message, honest-message, unready, Outcome};
@@ -16,6 +16,7 @@ use posting::comparison::{Comparison, Pair};
 use super::{Committed, Message, OutputsMade};
 use clearing::{ByteZero, Clearing};
 use equivalence::equation::{fold_key, fold_quotient};
+use equivalence::proofs::{Branch, BranchClone, DisjunctiveProof, EquivalenceProof, Proofs};
 use posting::drawing::{Commitments, draw_over};
 use refusal::{Reason, Refusal};
 use source::{Source, c_of, z_of};
@@ -111,5 +112,100 @@ pub fn commit<G: Group, S: Source>(
         equivalence,
         first: choose(setting, known, simulated),
         second: choose(setting, simulated, known),
+    })
+}
+
+// The answer e + c·r.
+fn answer_of<X: Exponent>(e: X, c: u64, r: X) -> X
+    ensures { λ s. ⌜ X·Exponent .value s ≡ answer-of (X·Exponent .exponents) (X·Exponent .value e) c (X·Exponent .value r) ⌝ }
+{
+    e.add(X::from_word(c).multiply(r))
+}
+
+// Both challenges of a comparator.
+#[derive(Clone, Copy)]
+struct Challenges {
+    equivalence: u64,
+    disjunction: u64,
+}
+
+// Draws both challenges, over the commitments.
+fn draw_challenges<G: Group, S: Source>(
+    g: &G,
+    source: &S,
+    comparison: Comparison<G::Element>,
+    w: G::Element,
+    w1: G::Element,
+    w2: G::Element,
+    question: u64,
+    buffer: &mut [u8],
+    place: usize,
+) -> Result<Challenges, Refusal>
+    ensures { λ r. ⌜ Outcome (unready (G·Group .operations) (S·Source .words (now (source .entry))) question (length (now (buffer .entry)))) place
+        (λ c. (c .equivalence ≡ equivalence-challenge (G·Group .operations) (Exponent·Exponent .exponents) (S·Source .words (now (source .entry))) (comparison-meaning (G·Group .point) comparison) (G·Group .point w) question)
+            × (c .disjunction ≡ disjunction-challenge (G·Group .operations) (Exponent·Exponent .exponents) (S·Source .words (now (source .entry))) (comparison-meaning (G·Group .point) comparison) (G·Group .point w1) (G·Group .point w2) question)) r ⌝ }
+{
+    if buffer.len() < 11 * g.code_width() {
+        return Err(Reason::UnfitLength.at(place));
+    }
+    if question.saturating_add(3) >= source.reach() {
+        return Err(Reason::BeyondReach.at(place));
+    }
+    let word = draw_over(g, source, comparison, Commitments::One(w), question + 1, buffer, place)?;
+    let equivalence = c_of::<G::Exponent>(word);
+    let word = draw_over(g, source, comparison, Commitments::Two(w1, w2), question + 3, buffer, place)?;
+    let disjunction = c_of::<G::Exponent>(word);
+    Ok(Challenges { equivalence, disjunction })
+}
+
+// Both proofs, answered: the known branch upon its part of the challenge, the other as it was chosen.
+fn respond<E: Copy, X: Exponent>(setting: Setting, secrets: Secrets<X>, c: Challenges, w: E, w1: E, w2: E) -> Proofs<E, X::Posted>
+    ensures { λ r. ⌜ proofs-meaning (λ e. e) (X·Exponent .number) r ≡ answered-proofs (X·Exponent .exponents) setting (secrets-meaning (X·Exponent .value) secrets) w w1 w2 (c .equivalence) (c .disjunction) ⌝ }
+{
+    let Secrets { r1, r2, equivalence, disjunction, answer, challenge } = secrets;
+    let product = answer_of(equivalence, c.equivalence, r1.add(r2)).post();
+    let split = c.disjunction ^ challenge;
+    let known = answer_of(disjunction, split, choose(setting, r1, r2)).post();
+    let chosen = answer.post();
+    let first = choose(setting, branch(w1, split, known), branch(w1, challenge, chosen));
+    let second = choose(setting, branch(w2, challenge, chosen), branch(w2, split, known));
+    Proofs {
+        equivalence: EquivalenceProof {
+            commitment: w,
+            answer: product,
+        },
+        disjunction: DisjunctiveProof { first, second },
+    }
+}
+
+fn branch<E, N>(commitment: E, challenge: u64, answer: N) -> Branch<E, N>
+    ensures { λ r. ⌜ r ≡ record { commitment = commitment; challenge = challenge; answer = answer } ⌝ }
+{
+    Branch {
+        commitment,
+        challenge,
+        answer,
+    }
+}
+
+// Answers both challenges; the commitment is used up. The buffer ends as zeros.
+pub fn answer<G: Group, S: Source>(
+    g: &G,
+    source: &S,
+    committed: Committed<G::Element, G::Exponent>,
+    buffer: &mut [u8],
+    place: usize,
+) -> Result<Message<G::Element, <G::Exponent as Exponent>::Posted>, Refusal>
+    ensures outcome { λ r. ⌜ Outcome (unready (G·Group .operations) (S·Source .words (now (source .entry))) (committed .question) (length (now (buffer .entry)))) place
+        (λ m. message-meaning (G·Group .point) (Exponent·Exponent .number) m ≡ answer-message (G·Group .operations) (Exponent·Exponent .exponents) (S·Source .words (now (source .entry))) (committed-meaning (G·Group .point) (Exponent·Exponent .value) committed)) r ⌝ }
+    ensures cleared { λ _. ⌜ now (buffer .exit) ≡ zeros 0 (now (buffer .entry)) ⌝ }
+{
+    let buffer = Clearing { places: buffer };
+    let Committed { made, question, equivalence, first, second } = committed;
+    let OutputsMade { comparison, setting, secrets } = made;
+    let c = draw_challenges(g, source, comparison, equivalence, first, second, question, buffer.places, place)?;
+    Ok(Message {
+        outputs: comparison.outputs,
+        proofs: respond(setting, secrets, c, equivalence, first, second),
     })
 }
