@@ -21,14 +21,14 @@ module _ {P : Type 0} {G : Operations P} (laws : GroupLaws G) where
 
   -- the same of two ciphertexts, multiplied, in either order
   pub product-power : (y : P) (c d : Ciphertext P) (r s z : ℕ)
-    → folded-quotient G (multiplied G c d) (multiplied G (reencrypted G y c r) (reencrypted G y d s)) z ≡ power G (folded-key G y z) (r + s)
+      → folded-quotient G (multiplied G c d) (multiplied G (reencrypted G y c r) (reencrypted G y d s)) z ≡ power G (folded-key G y z) (r + s)
   product-power y c d r s z =
       solve laws (z ∷ r ∷ s ∷ []) (y ∷ G .base ∷ c .alpha ∷ c .beta ∷ d .alpha ∷ d .beta ∷ [])
       ((((pt 2 · pt 0 ^ var 1) · (pt 4 · pt 0 ^ var 2)) · inv (pt 2 · pt 4)) ^ var 0 · (((pt 3 · pt 1 ^ var 1) · (pt 5 · pt 1 ^ var 2)) · inv (pt 3 · pt 5)))
       ((pt 0 ^ var 0 · pt 1) ^ (var 1 ⊕ var 2)) [] tt refl
 
   pub product-swapped : (y : P) (c d : Ciphertext P) (r s z : ℕ)
-    → folded-quotient G (multiplied G c d) (multiplied G (reencrypted G y d r) (reencrypted G y c s)) z ≡ power G (folded-key G y z) (r + s)
+      → folded-quotient G (multiplied G c d) (multiplied G (reencrypted G y d r) (reencrypted G y c s)) z ≡ power G (folded-key G y z) (r + s)
   product-swapped y c d r s z =
       solve laws (z ∷ r ∷ s ∷ []) (y ∷ G .base ∷ c .alpha ∷ c .beta ∷ d .alpha ∷ d .beta ∷ [])
       ((((pt 4 · pt 0 ^ var 1) · (pt 2 · pt 0 ^ var 2)) · inv (pt 2 · pt 4)) ^ var 0 · (((pt 5 · pt 1 ^ var 1) · (pt 3 · pt 1 ^ var 2)) · inv (pt 3 · pt 5)))

@@ -51,7 +51,7 @@ module _ {P : Type 0} {G : Operations P} (laws : GroupLaws G) (E : Exponents) (e
   passes key quotient w c s h = point-same laws _ _ h
 
   pub honest-taken : (y : P) (inputs : Pair P) (setting : Setting) (s : Secrets ℕ) (first : ℕ) → Fit E s → first + 3 < S .reach
-    → judge G E S (honest-comparison G y inputs setting s) (honest-proofs G E S (honest-comparison G y inputs setting s) setting s first) first ≡ None
+      → judge G E S (honest-comparison G y inputs setting s) (honest-proofs G E S (honest-comparison G y inputs setting s) setting s first) first ≡ None
   honest-taken y inputs Straight s first fits reaches =
       let k = honest-comparison G y inputs Straight s in
       let p = honest-proofs G E S k Straight s first in
@@ -62,10 +62,10 @@ module _ {P : Type 0} {G : Operations P} (laws : GroupLaws G) (E : Exponents) (e
       let split = xor-lt (E .challenge-bits) c′ (s .challenge) (drawn-below _) (fits .challenge-below) in
       equations-left G E S k p first (fit E p (below _) (branch-fit E (p .disjunction .first) split (below _)) (branch-fit E (p .disjunction .second) (fits .challenge-below) (fits .answer-below))) reaches
       ∙ none-fails G k p (draws G E S k p first)
-        (passes _ _ _ _ _ (true-accepted laws E same (folded-key G y z) _ (s .equivalence) _ (sum E (s .r1) (s .r2)) (product-power laws y (inputs .first) (inputs .second) (s .r1) (s .r2) z ∙ sum-power laws E same (folded-key G y z) (s .r1) (s .r2))))
-        (eq-eqb _ _ (xor-back c′ (s .challenge)))
-        (passes _ _ _ _ _ (true-accepted laws E same (folded-key G y z′) _ (s .disjunction) _ (s .r1) (quotient-power laws y (inputs .first) (s .r1) z′)))
-        (passes _ _ _ _ _ (simulated-accepted laws (folded-key G y z′) _ (s .challenge) (s .answer)))
+      (passes _ _ _ _ _ (true-accepted laws E same (folded-key G y z) _ (s .equivalence) _ (sum E (s .r1) (s .r2)) (product-power laws y (inputs .first) (inputs .second) (s .r1) (s .r2) z ∙ sum-power laws E same (folded-key G y z) (s .r1) (s .r2))))
+      (eq-eqb _ _ (xor-back c′ (s .challenge)))
+      (passes _ _ _ _ _ (true-accepted laws E same (folded-key G y z′) _ (s .disjunction) _ (s .r1) (quotient-power laws y (inputs .first) (s .r1) z′)))
+      (passes _ _ _ _ _ (simulated-accepted laws (folded-key G y z′) _ (s .challenge) (s .answer)))
   honest-taken y inputs Swapped s first fits reaches =
       let k = honest-comparison G y inputs Swapped s in
       let p = honest-proofs G E S k Swapped s first in
@@ -76,7 +76,7 @@ module _ {P : Type 0} {G : Operations P} (laws : GroupLaws G) (E : Exponents) (e
       let split = xor-lt (E .challenge-bits) c′ (s .challenge) (drawn-below _) (fits .challenge-below) in
       equations-left G E S k p first (fit E p (below _) (branch-fit E (p .disjunction .first) (fits .challenge-below) (fits .answer-below)) (branch-fit E (p .disjunction .second) split (below _))) reaches
       ∙ none-fails G k p (draws G E S k p first)
-        (passes _ _ _ _ _ (true-accepted laws E same (folded-key G y z) _ (s .equivalence) _ (sum E (s .r1) (s .r2)) (product-swapped laws y (inputs .first) (inputs .second) (s .r1) (s .r2) z ∙ sum-power laws E same (folded-key G y z) (s .r1) (s .r2))))
-        (eq-eqb _ _ (xor-comm (s .challenge) (bitXor c′ (s .challenge)) ∙ xor-back c′ (s .challenge)))
-        (passes _ _ _ _ _ (simulated-accepted laws (folded-key G y z′) _ (s .challenge) (s .answer)))
-        (passes _ _ _ _ _ (true-accepted laws E same (folded-key G y z′) _ (s .disjunction) _ (s .r2) (quotient-power laws y (inputs .first) (s .r2) z′)))
+      (passes _ _ _ _ _ (true-accepted laws E same (folded-key G y z) _ (s .equivalence) _ (sum E (s .r1) (s .r2)) (product-swapped laws y (inputs .first) (inputs .second) (s .r1) (s .r2) z ∙ sum-power laws E same (folded-key G y z) (s .r1) (s .r2))))
+      (eq-eqb _ _ (xor-comm (s .challenge) (bitXor c′ (s .challenge)) ∙ xor-back c′ (s .challenge)))
+      (passes _ _ _ _ _ (simulated-accepted laws (folded-key G y z′) _ (s .challenge) (s .answer)))
+      (passes _ _ _ _ _ (true-accepted laws E same (folded-key G y z′) _ (s .disjunction) _ (s .r2) (quotient-power laws y (inputs .first) (s .r2) z′)))

@@ -33,7 +33,7 @@ abbrev pub known-branch : {Point : Type 0} → Exponents → Point → Setting �
 known-branch E w setting s c = record {
   commitment = w;
   challenge = bitXor c (s .challenge);
-  answer = answer-of E (s .disjunction) (bitXor c (s .challenge)) (by-setting setting (s .r1) (s .r2))
+  answer = answer-of E (s .disjunction) (bitXor c (s .challenge)) (by-setting setting (s .r1) (s .r2));
 }
 
 abbrev pub simulated-branch : {Point : Type 0} → Point → Secrets ℕ → Branch Point ℕ
@@ -45,8 +45,8 @@ answered-proofs E setting s w w1 w2 c c′ = record {
   equivalence = record { commitment = w; answer = answer-of E (s .equivalence) c (sum E (s .r1) (s .r2)) };
   disjunction = record {
     first = by-setting setting (known-branch E w1 setting s c′) (simulated-branch w1 s);
-    second = by-setting setting (simulated-branch w2 s) (known-branch E w2 setting s c′)
-  }
+    second = by-setting setting (simulated-branch w2 s) (known-branch E w2 setting s c′);
+  };
 }
 
 module _ {Point : Type 0} (G : Operations Point) where
@@ -54,7 +54,7 @@ module _ {Point : Type 0} (G : Operations Point) where
   abbrev pub honest-outputs : Point → Pair Point → Setting → Secrets ℕ → Pair Point
   honest-outputs y inputs setting s = record {
     first = reencrypted G y (by-setting setting (inputs .first) (inputs .second)) (s .r1);
-    second = reencrypted G y (by-setting setting (inputs .second) (inputs .first)) (s .r2)
+    second = reencrypted G y (by-setting setting (inputs .second) (inputs .first)) (s .r2);
   }
 
   abbrev pub honest-comparison : Point → Pair Point → Setting → Secrets ℕ → Comparison Point

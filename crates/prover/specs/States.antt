@@ -7,7 +7,7 @@ use Rattle.std.specs.declared.option.Option.{Option}
 use Rattle.std.specs.declared.option.Option.the-variants.{None, Some}
 use Rattle.std.specs.declared.result.Result.{Result}
 use Rattle.std.specs.declared.result.Result.the-variants.{Ok, Err}
-use Rattle.equivalence.specs.Judgement.{unless, proofs-meaning}
+use Rattle.equivalence.specs.Judgement.{unless, proofs-meaning, judge}
 use Rattle.group.specs.Exponents.{Exponents}
 use Rattle.group.specs.Operations.{Operations}
 use Rattle.plan.specs.declared.Setting.{Setting}
@@ -32,8 +32,11 @@ made-meaning point value m = record { comparison = comparison-meaning point (m .
 
 abbrev pub committed-meaning : {Element Point X : Type 0} → (Element → Point) → (X → ℕ) → Committed Element X → Committed Point ℕ
 committed-meaning point value c = record {
-  made = made-meaning point value (c .made); question = c .question;
-  equivalence = point (c .equivalence); first = point (c .first); second = point (c .second)
+  made = made-meaning point value (c .made);
+  question = c .question;
+  equivalence = point (c .equivalence);
+  first = point (c .first);
+  second = point (c .second);
 }
 
 abbrev pub message-meaning : {Element Point N : Type 0} → (Element → Point) → (N → ℕ) → Message Element N → Message Point ℕ
@@ -57,10 +60,11 @@ module _ {Point : Type 0} (G : Operations Point) where
   -- committed: to the equivalence proof, and to both branches
   abbrev pub committed : Exponents → Words → OutputsMade Point ℕ → ℕ → Committed Point ℕ
   committed E S m question = record {
-    made = m; question = question;
+    made = m;
+    question = question;
     equivalence = equivalence-commitment G E S (m .comparison) (m .secrets) question;
     first = first-commitment G E S (m .comparison) (m .setting) (m .secrets) question;
-    second = second-commitment G E S (m .comparison) (m .setting) (m .secrets) question
+    second = second-commitment G E S (m .comparison) (m .setting) (m .secrets) question;
   }
 
   -- answered: the drawn challenges, over the commitments that were posted
@@ -68,13 +72,17 @@ module _ {Point : Type 0} (G : Operations Point) where
   answer-message E S c = record {
     outputs = c .made .comparison .outputs;
     proofs = answered-proofs E (c .made .setting) (c .made .secrets) (c .equivalence) (c .first) (c .second)
-      (equivalence-challenge G E S (c .made .comparison) (c .equivalence) (c .question))
-      (disjunction-challenge G E S (c .made .comparison) (c .first) (c .second) (c .question))
+        (equivalence-challenge G E S (c .made .comparison) (c .equivalence) (c .question))
+        (disjunction-challenge G E S (c .made .comparison) (c .first) (c .second) (c .question));
   }
 
   -- all that an honest comparator posts
   abbrev pub honest-message : Exponents → Words → Point → Pair Point → Setting → Secrets ℕ → ℕ → Message Point ℕ
   honest-message E S y inputs setting s question = record {
     outputs = honest-comparison G y inputs setting s .outputs;
-    proofs = honest-proofs G E S (honest-comparison G y inputs setting s) setting s question
+    proofs = honest-proofs G E S (honest-comparison G y inputs setting s) setting s question;
   }
+
+  -- the check of a comparator takes the message
+  abbrev pub Taken : Exponents → Words → Point → Pair Point → Message Point ℕ → ℕ → Type 0
+  Taken E S y inputs m question = judge G E S (record { key = y; inputs = inputs; outputs = m .outputs }) (m .proofs) question ≡ None

@@ -7,9 +7,11 @@ ghost use Rattle.std.specs.Results.{Cases};
 ghost use Rattle.prover.specs.Secrets.{secrets-meaning, secrets-of};
 ghost use Rattle.refusal.specs.Table.{refused-at};
 ghost use Rattle.refusal.specs.declared.Reason.the-variants.{UnfitLength};
-use clearing::{Clearing, WordZero};
+use clearing::Clearing;
+use clearing::WordZero;
 use group::Exponent;
-use refusal::{Reason, Refusal};
+use refusal::Reason;
+use refusal::Refusal;
 
 // The exponents of both re-encryptings, those of both true commitments, and the answer and challenge of the
 // branch that is simulated.

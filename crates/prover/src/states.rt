@@ -1,9 +1,11 @@
 // The states of an honest comparator: outputs made, committed, answered.
-use equivalence::proofs::{Proofs, ProofsClone};
-
-use plan::Setting;
-use posting::comparison::{Comparison, Pair, PairClone};
 use crate::secrets::Secrets;
+use equivalence::proofs::Proofs;
+use equivalence::proofs::ProofsClone;
+use plan::Setting;
+use posting::comparison::Comparison;
+use posting::comparison::Pair;
+use posting::comparison::PairClone;
 
 pub mod making;
 

@@ -6,20 +6,34 @@ ghost use Rattle.equivalence.specs.Judgement.{proofs-meaning};
 ghost use Rattle.posting.specs.Comparison.{pair-meaning, comparison-meaning};
 ghost use Rattle.prover.specs.Honest.{by-setting, answer-of, answered-proofs, equivalence-challenge, disjunction-challenge, equivalence-z, disjunction-z, true-commitment, simulated-commitment};
 ghost use Rattle.prover.specs.Secrets.{secrets-meaning};
-ghost use Rattle.std.specs.Results.{Cases};
+ghost use Rattle.std.specs.Vec.{made as ok};
 ghost use Rattle.prover.specs.States.{made-meaning, committed-meaning, message-meaning, outputs-made, committed, answer-message, honest-message, unready, Outcome};
+use super::Committed;
+use super::Message;
+use super::OutputsMade;
 use crate::secrets::Secrets;
+use clearing::ByteZero;
+use clearing::Clearing;
 use elgamal::reencrypt;
-use group::{Exponent, Group};
+use equivalence::equation::fold_key;
+use equivalence::equation::fold_quotient;
+use equivalence::proofs::Branch;
+use equivalence::proofs::BranchClone;
+use equivalence::proofs::DisjunctiveProof;
+use equivalence::proofs::EquivalenceProof;
+use equivalence::proofs::Proofs;
+use group::Exponent;
+use group::Group;
 use plan::Setting;
-use posting::comparison::{Comparison, Pair};
-use super::{Committed, Message, OutputsMade};
-use clearing::{ByteZero, Clearing};
-use equivalence::equation::{fold_key, fold_quotient};
-use equivalence::proofs::{Branch, BranchClone, DisjunctiveProof, EquivalenceProof, Proofs};
-use posting::drawing::{Commitments, draw_over};
-use refusal::{Reason, Refusal};
-use source::{Source, c_of, z_of};
+use posting::comparison::Comparison;
+use posting::comparison::Pair;
+use posting::drawing::Commitments;
+use posting::drawing::draw_over;
+use refusal::Reason;
+use refusal::Refusal;
+use source::Source;
+use source::c_of;
+use source::z_of;
 
 // The first where the comparator is straight, the second where it is swapped.
 fn choose<T: Copy>(setting: Setting, straight: T, swapped: T) -> T
@@ -32,7 +46,13 @@ fn choose<T: Copy>(setting: Setting, straight: T, swapped: T) -> T
 }
 
 // Re-encrypts both inputs onto the wires that the setting says.
-pub fn make_outputs<G: Group>(g: &G, key: G::Element, inputs: Pair<G::Element>, setting: Setting, secrets: Secrets<G::Exponent>) -> OutputsMade<G::Element, G::Exponent>
+pub fn make_outputs<G: Group>(
+    g: &G,
+    key: G::Element,
+    inputs: Pair<G::Element>,
+    setting: Setting,
+    secrets: Secrets<G::Exponent>,
+) -> OutputsMade<G::Element, G::Exponent>
     ensures { λ r. ⌜ made-meaning (G·Group .point) (Exponent·Exponent .value) r ≡ outputs-made (G·Group .operations) (G·Group .point key) (pair-meaning (G·Group .point) inputs) setting (secrets-meaning (Exponent·Exponent .value) secrets) ⌝ }
 {
     let Pair { first, second } = inputs;
@@ -41,7 +61,11 @@ pub fn make_outputs<G: Group>(g: &G, key: G::Element, inputs: Pair<G::Element>, 
         second: reencrypt(g, key, choose(setting, second, first), secrets.r2),
     };
     OutputsMade {
-        comparison: Comparison { key, inputs, outputs },
+        comparison: Comparison {
+            key,
+            inputs,
+            outputs,
+        },
         setting,
         secrets,
     }
@@ -55,10 +79,17 @@ struct Folds<X> {
 }
 
 // Draws both z.
-fn draw_folds<G: Group, S: Source>(g: &G, source: &S, comparison: Comparison<G::Element>, question: u64, buffer: &mut [u8], place: usize) -> Result<Folds<G::Exponent>, Refusal>
+fn draw_folds<G: Group, S: Source>(
+    g: &G,
+    source: &S,
+    comparison: Comparison<G::Element>,
+    question: u64,
+    buffer: &mut [u8],
+    place: usize,
+) -> Result<Folds<G::Exponent>, Refusal>
     ensures { λ r. ⌜ Outcome (unready (G·Group .operations) (S·Source .words (now (source .entry))) question (length (now (buffer .entry)))) place
         (λ z. (Exponent·Exponent .value (z .equivalence) ≡ equivalence-z (G·Group .operations) (Exponent·Exponent .exponents) (S·Source .words (now (source .entry))) (comparison-meaning (G·Group .point) comparison) question)
-            × (Exponent·Exponent .value (z .disjunction) ≡ disjunction-z (G·Group .operations) (Exponent·Exponent .exponents) (S·Source .words (now (source .entry))) (comparison-meaning (G·Group .point) comparison) question)) r ⌝ }
+        × (Exponent·Exponent .value (z .disjunction) ≡ disjunction-z (G·Group .operations) (Exponent·Exponent .exponents) (S·Source .words (now (source .entry))) (comparison-meaning (G·Group .point) comparison) question)) r ⌝ }
 {
     if buffer.len() < 11 * g.code_width() {
         return Err(Reason::UnfitLength.at(place));
@@ -66,18 +97,48 @@ fn draw_folds<G: Group, S: Source>(g: &G, source: &S, comparison: Comparison<G::
     if question.saturating_add(3) >= source.reach() {
         return Err(Reason::BeyondReach.at(place));
     }
-    let word = draw_over(g, source, comparison, Commitments::None, question, buffer, place)?;
+    let word = draw_over(
+        g,
+        source,
+        comparison,
+        Commitments::None,
+        question,
+        buffer,
+        place,
+    )?;
     let equivalence = z_of::<G::Exponent>(word);
-    let word = draw_over(g, source, comparison, Commitments::None, question + 2, buffer, place)?;
+    let word = draw_over(
+        g,
+        source,
+        comparison,
+        Commitments::None,
+        question + 2,
+        buffer,
+        place,
+    )?;
     let disjunction = z_of::<G::Exponent>(word);
-    Ok(Folds { equivalence, disjunction })
+    Ok(Folds {
+        equivalence,
+        disjunction,
+    })
 }
 
 // The commitment of the branch that is simulated: it fits an answer and a challenge chosen before.
-fn simulate<G: Group>(g: &G, comparison: Comparison<G::Element>, setting: Setting, z: G::Exponent, answer: G::Exponent, challenge: u64) -> G::Element
+fn simulate<G: Group>(
+    g: &G,
+    comparison: Comparison<G::Element>,
+    setting: Setting,
+    z: G::Exponent,
+    answer: G::Exponent,
+    challenge: u64,
+) -> G::Element
     ensures { λ r. ⌜ G·Group .point r ≡ simulated-commitment (G·Group .operations) (comparison-meaning (G·Group .point) comparison) setting (Exponent·Exponent .value z) (Exponent·Exponent .value answer) challenge ⌝ }
 {
-    let Comparison { key, inputs, outputs } = comparison;
+    let Comparison {
+        key,
+        inputs,
+        outputs,
+    } = comparison;
     let output = choose(setting, outputs.second, outputs.first);
     let right = g.raise_word(fold_quotient(g, inputs.first, output, z), challenge);
     g.multiply(g.raise(fold_key(g, key, z), answer), g.invert(right))
@@ -94,14 +155,32 @@ pub fn commit<G: Group, S: Source>(
 ) -> Result<Committed<G::Element, G::Exponent>, Refusal>
     ensures outcome { λ r. ⌜ Outcome (unready (G·Group .operations) (S·Source .words (now (source .entry))) question (length (now (buffer .entry)))) place
         (λ c. committed-meaning (G·Group .point) (Exponent·Exponent .value) c ≡ committed (G·Group .operations) (Exponent·Exponent .exponents) (S·Source .words (now (source .entry))) (made-meaning (G·Group .point) (Exponent·Exponent .value) made) question) r ⌝ }
+    ensures same_order { λ r. ⌜ ok r (λ _. G·Group .operations .order ≡ Exponent·Exponent .exponents .order) ⌝ }
     ensures cleared { λ _. ⌜ now (buffer .exit) ≡ zeros 0 (now (buffer .entry)) ⌝ }
 {
     let buffer = Clearing { places: buffer };
-    let OutputsMade { comparison, setting, secrets } = made;
+    let OutputsMade {
+        comparison,
+        setting,
+        secrets,
+    } = made;
     let z = draw_folds(g, source, comparison, question, buffer.places, place)?;
-    let equivalence = g.raise(fold_key(g, comparison.key, z.equivalence), secrets.equivalence);
-    let known = g.raise(fold_key(g, comparison.key, z.disjunction), secrets.disjunction);
-    let simulated = simulate(g, comparison, setting, z.disjunction, secrets.answer, secrets.challenge);
+    let equivalence = g.raise(
+        fold_key(g, comparison.key, z.equivalence),
+        secrets.equivalence,
+    );
+    let known = g.raise(
+        fold_key(g, comparison.key, z.disjunction),
+        secrets.disjunction,
+    );
+    let simulated = simulate(
+        g,
+        comparison,
+        setting,
+        z.disjunction,
+        secrets.answer,
+        secrets.challenge,
+    );
     Ok(Committed {
         made: OutputsMade {
             comparison,
@@ -143,7 +222,7 @@ fn draw_challenges<G: Group, S: Source>(
 ) -> Result<Challenges, Refusal>
     ensures { λ r. ⌜ Outcome (unready (G·Group .operations) (S·Source .words (now (source .entry))) question (length (now (buffer .entry)))) place
         (λ c. (c .equivalence ≡ equivalence-challenge (G·Group .operations) (Exponent·Exponent .exponents) (S·Source .words (now (source .entry))) (comparison-meaning (G·Group .point) comparison) (G·Group .point w) question)
-            × (c .disjunction ≡ disjunction-challenge (G·Group .operations) (Exponent·Exponent .exponents) (S·Source .words (now (source .entry))) (comparison-meaning (G·Group .point) comparison) (G·Group .point w1) (G·Group .point w2) question)) r ⌝ }
+        × (c .disjunction ≡ disjunction-challenge (G·Group .operations) (Exponent·Exponent .exponents) (S·Source .words (now (source .entry))) (comparison-meaning (G·Group .point) comparison) (G·Group .point w1) (G·Group .point w2) question)) r ⌝ }
 {
     if buffer.len() < 11 * g.code_width() {
         return Err(Reason::UnfitLength.at(place));
@@ -151,24 +230,65 @@ fn draw_challenges<G: Group, S: Source>(
     if question.saturating_add(3) >= source.reach() {
         return Err(Reason::BeyondReach.at(place));
     }
-    let word = draw_over(g, source, comparison, Commitments::One(w), question + 1, buffer, place)?;
+    let word = draw_over(
+        g,
+        source,
+        comparison,
+        Commitments::One(w),
+        question + 1,
+        buffer,
+        place,
+    )?;
     let equivalence = c_of::<G::Exponent>(word);
-    let word = draw_over(g, source, comparison, Commitments::Two(w1, w2), question + 3, buffer, place)?;
+    let word = draw_over(
+        g,
+        source,
+        comparison,
+        Commitments::Two(w1, w2),
+        question + 3,
+        buffer,
+        place,
+    )?;
     let disjunction = c_of::<G::Exponent>(word);
-    Ok(Challenges { equivalence, disjunction })
+    Ok(Challenges {
+        equivalence,
+        disjunction,
+    })
 }
 
 // Both proofs, answered: the known branch upon its part of the challenge, the other as it was chosen.
-fn respond<E: Copy, X: Exponent>(setting: Setting, secrets: Secrets<X>, c: Challenges, w: E, w1: E, w2: E) -> Proofs<E, X::Posted>
+fn respond<E: Copy, X: Exponent>(
+    setting: Setting,
+    secrets: Secrets<X>,
+    c: Challenges,
+    w: E,
+    w1: E,
+    w2: E,
+) -> Proofs<E, X::Posted>
     ensures { λ r. ⌜ proofs-meaning (λ e. e) (X·Exponent .number) r ≡ answered-proofs (X·Exponent .exponents) setting (secrets-meaning (X·Exponent .value) secrets) w w1 w2 (c .equivalence) (c .disjunction) ⌝ }
 {
-    let Secrets { r1, r2, equivalence, disjunction, answer, challenge } = secrets;
+    let Secrets {
+        r1,
+        r2,
+        equivalence,
+        disjunction,
+        answer,
+        challenge,
+    } = secrets;
     let product = answer_of(equivalence, c.equivalence, r1.add(r2)).post();
     let split = c.disjunction ^ challenge;
     let known = answer_of(disjunction, split, choose(setting, r1, r2)).post();
     let chosen = answer.post();
-    let first = choose(setting, branch(w1, split, known), branch(w1, challenge, chosen));
-    let second = choose(setting, branch(w2, challenge, chosen), branch(w2, split, known));
+    let first = choose(
+        setting,
+        branch(w1, split, known),
+        branch(w1, challenge, chosen),
+    );
+    let second = choose(
+        setting,
+        branch(w2, challenge, chosen),
+        branch(w2, split, known),
+    );
     Proofs {
         equivalence: EquivalenceProof {
             commitment: w,
@@ -201,9 +321,29 @@ pub fn answer<G: Group, S: Source>(
     ensures cleared { λ _. ⌜ now (buffer .exit) ≡ zeros 0 (now (buffer .entry)) ⌝ }
 {
     let buffer = Clearing { places: buffer };
-    let Committed { made, question, equivalence, first, second } = committed;
-    let OutputsMade { comparison, setting, secrets } = made;
-    let c = draw_challenges(g, source, comparison, equivalence, first, second, question, buffer.places, place)?;
+    let Committed {
+        made,
+        question,
+        equivalence,
+        first,
+        second,
+    } = committed;
+    let OutputsMade {
+        comparison,
+        setting,
+        secrets,
+    } = made;
+    let c = draw_challenges(
+        g,
+        source,
+        comparison,
+        equivalence,
+        first,
+        second,
+        question,
+        buffer.places,
+        place,
+    )?;
     Ok(Message {
         outputs: comparison.outputs,
         proofs: respond(setting, secrets, c, equivalence, first, second),

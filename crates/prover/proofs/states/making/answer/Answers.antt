@@ -21,11 +21,11 @@ returns g c =
     let S = g .S·Source .words (c .args .source .now) in
     let first = c .args .committed .question in
     let Drawn : Challenges → Type 0 = λ d.
-      (d .equivalence ≡ equivalence-challenge G E S k (point (c .args .committed .equivalence)) first)
-      × (d .disjunction ≡ disjunction-challenge G E S k (point (c .args .committed .first)) (point (c .args .committed .second)) first) in
+    (d .equivalence ≡ equivalence-challenge G E S k (point (c .args .committed .equivalence)) first)
+    × (d .disjunction ≡ disjunction-challenge G E S k (point (c .args .committed .first)) (point (c .args .committed .second)) first) in
     record {
       outcome = then-value _ _ Drawn _ (c .in-Continue-c .c) _ (c .in-Continue-c .ensures tt) (λ drawn.
-        ap {B = Message (g .G·Group .Point) ℕ} (λ p. record { outputs = pair-meaning point (made .comparison .outputs); proofs = p })
+          ap {B = Message (g .G·Group .Point) ℕ} (λ p. record { outputs = pair-meaning point (made .comparison .outputs); proofs = p })
           (ap (proofs-meaning point (λ (n : ℕ). n)) (c .respond .ensures) ∙ answered-meaning point E (made .setting) _ _ _ _ _ _ ∙ ap₂ answered (drawn .0) (drawn .1)));
-      cleared = search needs
+      cleared = search needs;
     }
