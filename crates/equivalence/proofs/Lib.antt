@@ -1,2 +1,3 @@
 pub mod SamePoint
 pub mod Judging
+pub mod Exactness

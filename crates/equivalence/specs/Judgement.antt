@@ -41,7 +41,7 @@ pub record Draws : Type 0 where
   pub disjunction-z : ℕ
   pub disjunction-c : ℕ
 
-abbrev both : Bool → Bool → Bool
+abbrev pub both : Bool → Bool → Bool
 both true b = b
 both false b = false
 

@@ -1,3 +1,4 @@
 pub mod Equations
 pub mod Judgement
 pub mod Drawing
+pub mod Holding

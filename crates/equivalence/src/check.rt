@@ -4,12 +4,13 @@ ghost use mathlib.Core.Bool.{true, false};
 ghost use mathlib.Core.Path.{_≡_};
 ghost use lib.ListN.{length};
 ghost use Rattle.clearing.specs.Zeros.{zeros};
-ghost use Rattle.std.specs.Results.{Cases};
+ghost use Rattle.std.specs.Results.{Cases, isOk};
 ghost use Rattle.posting.specs.Comparison.{comparison-meaning};
 ghost use Rattle.equivalence.specs.Judgement.{branch-meaning, proofs-meaning, branch-fits, numbers-fit, draws, equivalence-accepted, judge-equations, judge, unless, answered};
 ghost use Rattle.equivalence.specs.Equations.{folded-quotient, accepted};
 ghost use Rattle.elgamal.specs.Ciphertexts.{meaning};
 ghost use Rattle.equivalence.specs.Drawing.{draws-meaning};
+ghost use Rattle.equivalence.specs.Holding.{Holds};
 ghost use Rattle.posting.specs.Drawing.{buffer-fits};
 ghost use Rattle.refusal.specs.Table.{refused-at};
 ghost use Rattle.refusal.specs.declared.Reason.the-variants.{UnfitLength, UnfitNumber, BeyondReach};
@@ -293,6 +294,8 @@ pub fn check<G: Group, S: Source>(
     place: usize,
 ) -> Result<(), Refusal>
     ensures verdict { λ r. ⌜ answered (unless (buffer-fits (G·Group .operations) (length (now (buffer .entry)))) UnfitLength (judge (G·Group .operations) (Exponent·Exponent .exponents) (S·Source .words (now (source .entry))) (comparison-meaning (G·Group .point) comparison) (proofs-meaning (G·Group .point) (Exponent·Exponent .number) proofs) first)) place r ⌝ }
+    ensures exact { λ r. ⌜ ((isOk r ≡ true → Holds (G·Group .operations) (Exponent·Exponent .exponents) (S·Source .words (now (source .entry))) (comparison-meaning (G·Group .point) comparison) (proofs-meaning (G·Group .point) (Exponent·Exponent .number) proofs) first)
+        × (11 * G·Group .operations .width ≤ length (now (buffer .entry)) → Holds (G·Group .operations) (Exponent·Exponent .exponents) (S·Source .words (now (source .entry))) (comparison-meaning (G·Group .point) comparison) (proofs-meaning (G·Group .point) (Exponent·Exponent .number) proofs) first → isOk r ≡ true)) ⌝ }
     ensures cleared { λ _. ⌜ now (buffer .exit) ≡ zeros 0 (now (buffer .entry)) ⌝ }
 {
     let buffer = Clearing { places: buffer };

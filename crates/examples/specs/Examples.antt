@@ -1,5 +1,7 @@
 -- All worked examples.
 use Rattle.examples.specs.Ciphertexts.{CiphertextExamples}
+use Rattle.examples.specs.Comparators.{ComparatorExamples}
 
 pub record Examples : Type 0 where
   pub ciphertexts : CiphertextExamples
+  pub comparators : ComparatorExamples

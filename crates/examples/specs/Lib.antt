@@ -1,3 +1,4 @@
 pub mod Small
 pub mod Ciphertexts
+pub mod Comparators
 pub mod Examples
