@@ -68,6 +68,7 @@ fn width(levels: usize) -> usize
 fn size(levels: usize) -> usize
     requires { ⌜ levels ≤ 6 ⌝ }
     ensures value { λ r. ⌜ r ≡ length (network levels) ⌝ }
+    ensures listed { λ r. ⌜ r ≡ length (butterfly levels) ⌝ }
     ensures bound { λ r. ⌜ r ≤ 384 ⌝ }
 {
     let wires = width(levels);
@@ -78,10 +79,17 @@ fn pair_of(i: usize) -> Comparator
     requires { ⌜ i < 64 ⌝ }
     ensures { λ r. ⌜ r ≡ pair i ⌝ }
 {
-    Comparator {
-        first: 2 * i,
-        second: 2 * i + 1,
-    }
+    let first = 2 * i;
+    let second = 2 * i + 1;
+    Comparator { first, second }
+}
+
+// The last pairs begin with the second one.
+fn last_pair(i: usize) -> Comparator
+    requires { ⌜ i < 63 ⌝ }
+    ensures { λ r. ⌜ r ≡ pair (i + 1) ⌝ }
+{
+    pair_of(i + 1)
 }
 
 // A comparator of a half on the wires of the whole.
@@ -117,9 +125,12 @@ fn listed(levels: usize, k: usize) -> Option<Comparator>
     if k < pairs + 2 * inner {
         return on_wires(listed(levels - 1, k - pairs - inner), Half::Odd);
     }
-    // the last pairs begin with the second one
-    let i = k - pairs - 2 * inner + 1;
-    if i < pairs { Some(pair_of(i)) } else { None }
+    let i = k - pairs - 2 * inner;
+    if i < pairs - 1 {
+        Some(last_pair(i))
+    } else {
+        None
+    }
 }
 
 // For each end, the end of the item that starts beside the one which ends there.
@@ -316,12 +327,11 @@ pub impl Plan for Butterfly as ButterflyPlan {
     }
 
     fn route(&self, permutation: &[usize], settings: &mut [Setting]) -> Result<(), Refusal> {
-        if permutation.len() != self.wires() || settings.len() != self.count() {
+        if settings.len() != self.count() {
             return Err(Reason::UnfitLength.at(0));
         }
-        let Some(shuffle) = Shuffle::read(permutation) else {
-            return Err(Reason::NoPermutation.at(0));
-        };
+        let wires = width(self.levels);
+        let shuffle = Shuffle::read(permutation, wires)?;
         route_over(self.levels, &shuffle.entries, &shuffle.inverse, settings, 0);
         Ok(())
     }
