@@ -16,6 +16,55 @@ use plan::Shuffle;
 use refusal::Reason;
 use refusal::Refusal;
 
+// The plan in which the halves of the wires are routed between two layers of pairs.
+#[derive(Clone, Copy)]
+pub struct Butterfly {
+    levels: usize,
+    ghost fits: { (1 ≤ levels) × (levels ≤ 6) },
+}
+
+impl Butterfly {
+    // The butterfly over 2, 4, 8, 16, 32 or 64 wires.
+    pub fn new(wires: usize) -> Result<Butterfly, Refusal>
+        ensures { λ r. ⌜ Cases r (λ b. (2 ^ (b .levels) ≡ wires) × (length (butterfly (b .levels)) + wires ≡ b .levels * wires + 1)) (Unfit wires) ⌝ }
+    {
+        for levels in 1..7 {
+            if width(levels) == wires {
+                return Ok(Butterfly { levels });
+            }
+        }
+        Err(Reason::UnfitWires.at(0))
+    }
+}
+
+pub impl Plan for Butterfly as ButterflyPlan {
+    ghost width = { λ b. 2 ^ (b .levels) };
+
+    ghost listing = { λ b. butterfly (b .levels) };
+
+    fn wires(&self) -> usize {
+        width(self.levels)
+    }
+
+    fn count(&self) -> usize {
+        size(self.levels)
+    }
+
+    fn comparator(&self, k: usize) -> Option<Comparator> {
+        listed(self.levels, k)
+    }
+
+    fn route(&self, permutation: &[usize], settings: &mut [Setting]) -> Result<(), Refusal> {
+        if settings.len() != self.count() {
+            return Err(Reason::UnfitLength.at(0));
+        }
+        let wires = width(self.levels);
+        let shuffle = Shuffle::read(permutation, wires)?;
+        route_over(self.levels, &shuffle.entries, &shuffle.inverse, settings, 0);
+        Ok(())
+    }
+}
+
 // The half of a butterfly that an item goes through.
 #[derive(Clone, Copy)]
 enum Half {
@@ -286,53 +335,4 @@ fn route_over(
     let odd_back = halve(pairs, inverse, &starts, Half::Odd);
     route_over(levels - 1, &odd, &odd_back, settings, start + pairs + inner);
     set_layer(settings, start + pairs + 2 * inner, &ends, 1, pairs - 1);
-}
-
-// The plan in which the halves of the wires are routed between two layers of pairs.
-#[derive(Clone, Copy)]
-pub struct Butterfly {
-    levels: usize,
-    ghost fits: { (1 ≤ levels) × (levels ≤ 6) },
-}
-
-impl Butterfly {
-    // The butterfly over 2, 4, 8, 16, 32 or 64 wires.
-    pub fn new(wires: usize) -> Result<Butterfly, Refusal>
-        ensures { λ r. ⌜ Cases r (λ b. (2 ^ (b .levels) ≡ wires) × (length (butterfly (b .levels)) + wires ≡ b .levels * wires + 1)) (Unfit wires) ⌝ }
-    {
-        for levels in 1..7 {
-            if width(levels) == wires {
-                return Ok(Butterfly { levels });
-            }
-        }
-        Err(Reason::UnfitWires.at(0))
-    }
-}
-
-pub impl Plan for Butterfly as ButterflyPlan {
-    ghost width = { λ b. 2 ^ (b .levels) };
-
-    ghost listing = { λ b. butterfly (b .levels) };
-
-    fn wires(&self) -> usize {
-        width(self.levels)
-    }
-
-    fn count(&self) -> usize {
-        size(self.levels)
-    }
-
-    fn comparator(&self, k: usize) -> Option<Comparator> {
-        listed(self.levels, k)
-    }
-
-    fn route(&self, permutation: &[usize], settings: &mut [Setting]) -> Result<(), Refusal> {
-        if settings.len() != self.count() {
-            return Err(Reason::UnfitLength.at(0));
-        }
-        let wires = width(self.levels);
-        let shuffle = Shuffle::read(permutation, wires)?;
-        route_over(self.levels, &shuffle.entries, &shuffle.inverse, settings, 0);
-        Ok(())
-    }
 }
