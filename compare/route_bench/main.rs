@@ -77,33 +77,33 @@ fn listed(levels: usize, k: usize) -> Option<Comparator> {
     if i < pairs - 1 { Some(pair_of(i + 1)) } else { None }
 }
 
-fn inverted(permutation: &[usize]) -> Option<[usize; 64]> {
+fn inverted(permutation: &[usize]) -> Option<[u8; 64]> {
     let mut inverse = [64; 64];
     for (x, &y) in permutation.iter().enumerate() {
         if y >= permutation.len() || inverse[y] != 64 {
             return None;
         }
-        inverse[y] = x;
+        inverse[y] = x as u8;
     }
     Some(inverse)
 }
 
-fn halves_by_end(pairs: usize, entries: &[usize; 64], inverse: &[usize; 64]) -> [Half; 64] {
+fn halves_by_end(pairs: usize, entries: &[u8; 64], inverse: &[u8; 64]) -> [Half; 64] {
     let mut table = [0; 64];
     for x in 0..2 * pairs {
-        table[x] = inverse[entries[x] ^ 1];
+        table[x] = inverse[(entries[x] ^ 1) as usize];
     }
     for j in (0..pairs).rev() {
         let a = table[2 * j];
-        if a < 2 * j {
+        if (a as usize) < 2 * j {
             let b = table[2 * j + 1];
-            table[a] = b;
-            table[b] = a;
+            table[a as usize] = b;
+            table[b as usize] = a;
         }
     }
     let mut halves = [Half::Even; 64];
     for j in 0..pairs {
-        let a = table[2 * j];
+        let a = table[2 * j] as usize;
         let half = if a < 2 * j { halves[a].other() } else { Half::Even };
         halves[2 * j] = half;
         halves[2 * j + 1] = half.other();
@@ -111,7 +111,7 @@ fn halves_by_end(pairs: usize, entries: &[usize; 64], inverse: &[usize; 64]) -> 
     halves
 }
 
-fn halve(pairs: usize, entries: &[usize; 64], halves: &[Half; 64], half: Half) -> [usize; 64] {
+fn halve(pairs: usize, entries: &[u8; 64], halves: &[Half; 64], half: Half) -> [u8; 64] {
     let mut table = [0; 64];
     for i in 0..pairs {
         let seat = if halves[2 * i] == half { 2 * i } else { 2 * i + 1 };
@@ -120,7 +120,7 @@ fn halve(pairs: usize, entries: &[usize; 64], halves: &[Half; 64], half: Half) -
     table
 }
 
-fn route_over(levels: usize, entries: &[usize; 64], inverse: &[usize; 64], settings: &mut [Setting]) {
+fn route_over(levels: usize, entries: &[u8; 64], inverse: &[u8; 64], settings: &mut [Setting]) {
     if levels == 0 {
         return;
     }
@@ -129,7 +129,7 @@ fn route_over(levels: usize, entries: &[usize; 64], inverse: &[usize; 64], setti
     let ends = halves_by_end(pairs, entries, inverse);
     let mut starts = [Half::Even; 64];
     for y in 0..2 * pairs {
-        starts[y] = ends[inverse[y]];
+        starts[y] = ends[inverse[y] as usize];
     }
     for i in 0..pairs {
         settings[i] = starts[2 * i].setting();
@@ -151,7 +151,9 @@ fn route(levels: usize, permutation: &[usize], settings: &mut [Setting]) -> Opti
     }
     let inverse = inverted(permutation)?;
     let mut entries = [0; 64];
-    entries[..permutation.len()].copy_from_slice(permutation);
+    for (entry, &wire) in entries.iter_mut().zip(permutation) {
+        *entry = wire as u8;
+    }
     route_over(levels, &entries, &inverse, settings);
     Some(())
 }

@@ -113,7 +113,7 @@ fn set_row(row: &mut [Setting], first: usize, from: usize)
 }
 
 // Exchanges two numbers wherever they stand.
-fn rename(entries: &mut [usize], one: usize, other: usize)
+fn rename(entries: &mut [u8], one: u8, other: u8)
     ensures { λ _. ⌜ ((x : ℕ) → x < length (now (entries .entry)) → at (now (entries .exit)) x ≡ crossed (on one other) (at (now (entries .entry)) x)) ⌝ }
 {
     for x in 0..entries.len() {
@@ -129,7 +129,7 @@ fn rename(entries: &mut [usize], one: usize, other: usize)
 }
 
 // Row by row: the item wanted on a wire is brought there, and the wanted entries then name the wires as they are.
-fn set_rows(wanted: &mut [usize; 64], wires: usize, settings: &mut [Setting])
+fn set_rows(wanted: &mut [u8; 64], wires: usize, settings: &mut [Setting])
     requires narrow { ⌜ wires ≤ 64 ⌝ }
     requires permutes { ⌜ Permutes 0 wires (at (now wanted)) ⌝ }
     requires places { ⌜ length (now settings) ≡ length (chain wires) ⌝ }
@@ -139,8 +139,8 @@ fn set_rows(wanted: &mut [usize; 64], wires: usize, settings: &mut [Setting])
     for j in 0..wires {
         let row = wires - 1 - j;
         let from = wanted[j];
-        set_row(&mut settings[start..start + row], j, from);
-        rename(wanted, j, from);
+        set_row(&mut settings[start..start + row], j, from as usize);
+        rename(wanted, j as u8, from);
         start += row;
     }
 }

@@ -100,8 +100,8 @@ pub fn run_plan<P: Plan, T>(plan: &P, settings: &[Setting], items: &mut [T]) -> 
 // A permutation of at most 64 wires and its inverse, as tables whose first entries count.
 #[derive(Clone, Copy)]
 pub struct Shuffle {
-    pub entries: [usize; 64],
-    pub inverse: [usize; 64],
+    pub entries: [u8; 64],
+    pub inverse: [u8; 64],
 }
 
 impl Shuffle {
@@ -121,20 +121,23 @@ impl Shuffle {
 }
 
 // The entries in the first places of a table.
-fn copied(entries: &[usize]) -> [usize; 64]
-    requires { ⌜ length (now entries) ≤ 64 ⌝ }
+fn copied(entries: &[usize]) -> [u8; 64]
+    requires narrow { ⌜ length (now entries) ≤ 64 ⌝ }
+    requires below { ⌜ ((x : ℕ) → x < length (now entries) → at (now entries) x < length (now entries)) ⌝ }
     ensures { λ r. ⌜ ((x : ℕ) → x < length (now (entries .entry)) → at r x ≡ at (now (entries .entry)) x) ⌝ }
 {
     let mut table = [0; 64];
-    table[0..entries.len()].copy_from_slice(entries);
+    for x in 0..entries.len() {
+        table[x] = entries[x] as u8;
+    }
     table
 }
 
 // What stands in a table where no wire is named.
-const NONE: usize = 64;
+const NONE: u8 = 64;
 
 // Whether a wire is one of so many, and is not named in the table yet.
-fn is_new(table: &[usize; 64], wire: usize, wires: usize) -> bool
+fn is_new(table: &[u8; 64], wire: usize, wires: usize) -> bool
     requires { ⌜ wires ≤ 64 ⌝ }
     ensures { λ r. ⌜ Decides r ((wire < wires) × (at (now (table .entry)) wire ≡ 64)) ⌝ }
 {
@@ -142,7 +145,7 @@ fn is_new(table: &[usize; 64], wire: usize, wires: usize) -> bool
 }
 
 // The inverse of a permutation; none where an entry is no wire or stands there twice.
-fn inverted(permutation: &[usize]) -> Option<[usize; 64]>
+fn inverted(permutation: &[usize]) -> Option<[u8; 64]>
     requires { ⌜ length (now permutation) ≤ 64 ⌝ }
     ensures { λ r. ⌜ BySome r (Permutation (length (now (permutation .entry))) (now (permutation .entry)) → ⊥) (λ q. Permutation (length (now (permutation .entry))) (now (permutation .entry)) × Inverse (length (now (permutation .entry))) (at (now (permutation .entry))) (at q)) ⌝ }
 {
@@ -152,7 +155,7 @@ fn inverted(permutation: &[usize]) -> Option<[usize; 64]>
         if !is_new(&inverse, y, permutation.len()) {
             return None;
         }
-        inverse[y] = x;
+        inverse[y] = x as u8;
     }
     Some(inverse)
 }

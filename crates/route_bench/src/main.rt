@@ -13,7 +13,13 @@ fn mixed(sum: usize, part: usize) -> usize {
 fn listed<P: Plan>(plan: &P, mut sum: usize) -> usize {
     for k in 0..plan.count() {
         if let Some(comparator) = plan.comparator(k) {
-            sum = mixed(sum, comparator.first.wrapping_mul(64).wrapping_add(comparator.second));
+            sum = mixed(
+                sum,
+                comparator
+                    .first
+                    .wrapping_mul(64)
+                    .wrapping_add(comparator.second),
+            );
         }
     }
     sum
@@ -46,7 +52,11 @@ fn turned<P: Plan>(plan: &P, work: &str, turns: usize) -> usize {
     let mut sum = 0;
     let listing = work == "list";
     for turn in 0..turns {
-        sum = if listing { listed(plan, sum) } else { routed(plan, turn, sum) };
+        sum = if listing {
+            listed(plan, sum)
+        } else {
+            routed(plan, turn, sum)
+        };
     }
     sum
 }
