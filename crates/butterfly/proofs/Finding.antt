@@ -75,12 +75,12 @@ after-odd cs m n k e h =
     after-first cs m k (omega arith) ∙ after-even cs m n (k - m) e (omega arith)
     ∙ nth-right (map (in-half 1) cs) (map pair (counting 1 (m - 1))) n (k - m - n) (length-map cs (in-half 1) ∙ sym e) (omega arith)
 
-pub in-last : (cs : List Comparator) (m n k i : ℕ) → n ≡ length cs → m + 2 * n ≤ k → i ≡ k - m - 2 * n + 1 → i < m → Some (pair i) ≡ nth (doubled cs m) k
+pub in-last : (cs : List Comparator) (m n k i : ℕ) → n ≡ length cs → m + 2 * n ≤ k → i ≡ k - m - 2 * n → i < m - 1 → Some (pair (i + 1)) ≡ nth (doubled cs m) k
 in-last cs m n k i e h f l =
-    let z : 1 + (k - m - n - n) ≡ i = omega arith in
+    let z : 1 + (k - m - n - n) ≡ i + 1 = omega arith in
     sym (after-odd cs m n k e h ∙ nth-pairs 1 (m - 1) (k - m - n - n) (omega arith) ∙ ap (λ j. Some (pair j)) z)
 
-pub past-last : (cs : List Comparator) (m n k i : ℕ) → n ≡ length cs → m + 2 * n ≤ k → i ≡ k - m - 2 * n + 1 → m ≤ i → None ≡ nth (doubled cs m) k
+pub past-last : (cs : List Comparator) (m n k i : ℕ) → n ≡ length cs → m + 2 * n ≤ k → i ≡ k - m - 2 * n → m - 1 ≤ i → None ≡ nth (doubled cs m) k
 past-last cs m n k i e h f l =
     let s = length-map-counting pair 1 (m - 1) in
     sym (after-odd cs m n k e h ∙ nth-past (map pair (counting 1 (m - 1))) (k - m - n - n) (omega arith))

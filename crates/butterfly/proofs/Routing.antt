@@ -11,13 +11,17 @@ use Rattle.std.proofs.shelf.Lists.{length-append, length-map}
 use Rattle.std.proofs.shelf.Counted.{length-counting}
 use Rattle.plan.specs.declared.Setting.{Setting}
 use Rattle.plan.specs.declared.Comparator.{Comparator}
-use Rattle.plan.specs.Plans.{at, source, Inverse}
+use Rattle.plan.specs.Plans.{at, source, Inverse, Permutation, Tabled, Brings}
+use Rattle.plan.proofs.Running.{brings-from}
 use Rattle.butterfly.specs.declared.Half.{Half}
-use Rattle.butterfly.specs.Halves.{other, sides, network, doubled, layer, Halved, half-of, Sends}
+use Rattle.butterfly.specs.Halves.{other, sides, network, doubled, layer, Halved, half-of, Sends, Routes-at}
+use Rattle.butterfly.specs.Listing.{butterfly}
 use Rattle.butterfly.specs.Colours.{Coloured, Contracted, partner, first-half, paint, painted}
 use Rattle.butterfly.proofs.Colouring.{painted-step, contracted-all}
 use Rattle.butterfly.proofs.Halving.{halved, half-inverse}
 use Rattle.butterfly.proofs.Network.{joined-settings, combined}
+use Rattle.butterfly.proofs.Placing.{butterfly-is, butterfly-lawful}
+use Rattle.butterfly.proofs.Writing.{written-all}
 use Rattle.butterfly.proofs.Finding.{network-none, network-step}
 
 pub paint-more : (t : List ℕ) (j m : ℕ) (c r : List Half) (h o : Half) → j < m → h ≡ first-half t j c → o ≡ other h →
@@ -82,3 +86,16 @@ pub sends-none : (k : ℕ) (ss : List Setting) (p q : ℕ → ℕ) → k ≡ 0 �
 unfolding network source
 sends-none zero ss p q e v x h = let w = v .to x h in omega arith
 sends-none (suc k) ss p q e v x h = absurd (omega arith)
+
+-- the whole route
+pub routed : (k w : ℕ) (p es is : List ℕ) (before after : List Setting) → w ≡ 2 ^ k → 1 ≤ k → k ≤ 6 → Tabled w p es is → length before ≡ length (butterfly k) →
+    Routes-at k 0 (at es) before after → Permutation (2 ^ k) p × Brings (2 ^ k) (butterfly k) after p
+routed k w p es is before after e h l t c r =
+    let v : Permutation (2 ^ k) p = subst (λ (n : ℕ). Permutation n p) e (t .permutation) in
+    let b = butterfly-is k in
+    let m : length (r .route) ≡ length before = r .count ∙ sym (c ∙ ap length b) in
+    let a : after ≡ r .route = r .stands ∙ written-all before (r .route) m in (
+      v,
+      brings-from (2 ^ k) (butterfly k) after p (butterfly-lawful k h l .within) (ap length a ∙ m ∙ c) (v .long)
+          (λ x g. ap (λ cs. source cs after x) b ∙ ap (λ ss. source (network k) ss x) a ∙ r .sent x g ∙ t .same x (omega arith)),
+    )

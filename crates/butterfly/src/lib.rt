@@ -16,6 +16,55 @@ use plan::Shuffle;
 use refusal::Reason;
 use refusal::Refusal;
 
+// The plan in which the halves of the wires are routed between two layers of pairs.
+#[derive(Clone, Copy)]
+pub struct Butterfly {
+    levels: usize,
+    ghost fits: { (1 ≤ levels) × (levels ≤ 6) },
+}
+
+impl Butterfly {
+    // The butterfly over 2, 4, 8, 16, 32 or 64 wires.
+    pub fn new(wires: usize) -> Result<Butterfly, Refusal>
+        ensures { λ r. ⌜ Cases r (λ b. (2 ^ (b .levels) ≡ wires) × (length (butterfly (b .levels)) + wires ≡ b .levels * wires + 1)) (Unfit wires) ⌝ }
+    {
+        for levels in 1..7 {
+            if width(levels) == wires {
+                return Ok(Butterfly { levels });
+            }
+        }
+        Err(Reason::UnfitWires.at(0))
+    }
+}
+
+pub impl Plan for Butterfly as ButterflyPlan {
+    ghost width = { λ b. 2 ^ (b .levels) };
+
+    ghost listing = { λ b. butterfly (b .levels) };
+
+    fn wires(&self) -> usize {
+        width(self.levels)
+    }
+
+    fn count(&self) -> usize {
+        size(self.levels)
+    }
+
+    fn comparator(&self, k: usize) -> Option<Comparator> {
+        listed(self.levels, k)
+    }
+
+    fn route(&self, permutation: &[usize], settings: &mut [Setting]) -> Result<(), Refusal> {
+        if settings.len() != self.count() {
+            return Err(Reason::UnfitLength.at(0));
+        }
+        let wires = width(self.levels);
+        let shuffle = Shuffle::read(permutation, wires)?;
+        route_over(self.levels, &shuffle.entries, &shuffle.inverse, settings, 0);
+        Ok(())
+    }
+}
+
 // The half of a butterfly that an item goes through.
 #[derive(Clone, Copy)]
 enum Half {
@@ -68,6 +117,7 @@ fn width(levels: usize) -> usize
 fn size(levels: usize) -> usize
     requires { ⌜ levels ≤ 6 ⌝ }
     ensures value { λ r. ⌜ r ≡ length (network levels) ⌝ }
+    ensures listed { λ r. ⌜ r ≡ length (butterfly levels) ⌝ }
     ensures bound { λ r. ⌜ r ≤ 384 ⌝ }
 {
     let wires = width(levels);
@@ -78,10 +128,17 @@ fn pair_of(i: usize) -> Comparator
     requires { ⌜ i < 64 ⌝ }
     ensures { λ r. ⌜ r ≡ pair i ⌝ }
 {
-    Comparator {
-        first: 2 * i,
-        second: 2 * i + 1,
-    }
+    let first = 2 * i;
+    let second = 2 * i + 1;
+    Comparator { first, second }
+}
+
+// The last pairs begin with the second one.
+fn last_pair(i: usize) -> Comparator
+    requires { ⌜ i < 63 ⌝ }
+    ensures { λ r. ⌜ r ≡ pair (i + 1) ⌝ }
+{
+    pair_of(i + 1)
 }
 
 // A comparator of a half on the wires of the whole.
@@ -117,20 +174,23 @@ fn listed(levels: usize, k: usize) -> Option<Comparator>
     if k < pairs + 2 * inner {
         return on_wires(listed(levels - 1, k - pairs - inner), Half::Odd);
     }
-    // the last pairs begin with the second one
-    let i = k - pairs - 2 * inner + 1;
-    if i < pairs { Some(pair_of(i)) } else { None }
+    let i = k - pairs - 2 * inner;
+    if i < pairs - 1 {
+        Some(last_pair(i))
+    } else {
+        None
+    }
 }
 
 // For each end, the end of the item that starts beside the one which ends there.
-fn partners(pairs: usize, entries: &[usize; 64], inverse: &[usize; 64]) -> [usize; 64]
+fn partners(pairs: usize, entries: &[u8; 64], inverse: &[u8; 64]) -> [u8; 64]
     requires narrow { ⌜ pairs ≤ 32 ⌝ }
     requires inverse { ⌜ Inverse (2 * pairs) (at (now entries)) (at (now inverse)) ⌝ }
     ensures { λ r. ⌜ ((x : ℕ) → x < 2 * pairs → at r x ≡ partner (at (now (entries .entry))) (at (now (inverse .entry))) x) ⌝ }
 {
     let mut table = [0; 64];
     for x in 0..2 * pairs {
-        let start = entries[x];
+        let start = entries[x] as usize;
         // the other wire of its pair
         let beside = start + 1 - 2 * (start % 2);
         table[x] = inverse[beside];
@@ -139,7 +199,7 @@ fn partners(pairs: usize, entries: &[usize; 64], inverse: &[usize; 64]) -> [usiz
 }
 
 // Takes the pairs out, last first, and makes the partners of the two ends of each partners of each other.
-fn contract(table: &mut [usize], pairs: usize)
+fn contract(table: &mut [u8], pairs: usize)
     requires long { ⌜ 2 * pairs ≤ length (now table) ⌝ }
     requires matching { ⌜ Matching pairs (at (now table)) ⌝ }
     ensures { λ _. ⌜ Contracted 0 pairs (now (table .exit)) (at (now (table .entry))) ⌝ }
@@ -148,20 +208,20 @@ fn contract(table: &mut [usize], pairs: usize)
     while j > 0 {
         j -= 1;
         let a = table[2 * j];
-        if a < 2 * j {
+        if (a as usize) < 2 * j {
             let b = table[2 * j + 1];
-            table[a] = b;
-            table[b] = a;
+            table[a as usize] = b;
+            table[b as usize] = a;
         }
     }
 }
 
 // The half of the first end of a pair, once the pairs before it have theirs.
-fn first_half(table: &[usize; 64], j: usize, halves: &[Half; 64]) -> Half
+fn first_half(table: &[u8; 64], j: usize, halves: &[Half; 64]) -> Half
     requires { ⌜ j < 32 ⌝ }
     ensures { λ r. ⌜ r ≡ first-half (now (table .entry)) j (now (halves .entry)) ⌝ }
 {
-    let a = table[2 * j];
+    let a = table[2 * j] as usize;
     if a < 2 * j {
         halves[a].other()
     } else {
@@ -170,7 +230,7 @@ fn first_half(table: &[usize; 64], j: usize, halves: &[Half; 64]) -> Half
 }
 
 // Gives each pair its halves, first pair first.
-fn paint(table: &[usize; 64], pairs: usize) -> [Half; 64]
+fn paint(table: &[u8; 64], pairs: usize) -> [Half; 64]
     requires { ⌜ pairs ≤ 32 ⌝ }
     ensures { λ r. ⌜ r ≡ painted (now (table .entry)) 0 pairs (replicate 64 Even) ⌝ }
 {
@@ -184,7 +244,7 @@ fn paint(table: &[usize; 64], pairs: usize) -> [Half; 64]
 }
 
 // The half of the item that ends on each wire.
-fn halves_by_end(pairs: usize, entries: &[usize; 64], inverse: &[usize; 64]) -> [Half; 64]
+fn halves_by_end(pairs: usize, entries: &[u8; 64], inverse: &[u8; 64]) -> [Half; 64]
     requires narrow { ⌜ pairs ≤ 32 ⌝ }
     requires inverse { ⌜ Inverse (2 * pairs) (at (now entries)) (at (now inverse)) ⌝ }
     ensures { λ r. ⌜ Coloured pairs (partner (at (now (entries .entry))) (at (now (inverse .entry)))) (sides r) ⌝ }
@@ -195,14 +255,14 @@ fn halves_by_end(pairs: usize, entries: &[usize; 64], inverse: &[usize; 64]) -> 
 }
 
 // The half of the item that starts on each wire.
-fn halves_by_start(pairs: usize, inverse: &[usize; 64], ends: &[Half; 64]) -> [Half; 64]
+fn halves_by_start(pairs: usize, inverse: &[u8; 64], ends: &[Half; 64]) -> [Half; 64]
     requires narrow { ⌜ pairs ≤ 32 ⌝ }
     requires below { ⌜ ((y : ℕ) → y < 2 * pairs → at (now inverse) y < 2 * pairs) ⌝ }
     ensures { λ r. ⌜ ((y : ℕ) → y < 2 * pairs → sides r y ≡ sides (now (ends .entry)) (at (now (inverse .entry)) y)) ⌝ }
 {
     let mut starts = [Half::Even; 64];
     for y in 0..2 * pairs {
-        starts[y] = ends[inverse[y]];
+        starts[y] = ends[inverse[y] as usize];
     }
     starts
 }
@@ -219,7 +279,7 @@ fn seat_of(halves: &[Half; 64], half: Half, i: usize) -> usize
 }
 
 // What the entries are on a half.
-fn halve(pairs: usize, entries: &[usize; 64], halves: &[Half; 64], half: Half) -> [usize; 64]
+fn halve(pairs: usize, entries: &[u8; 64], halves: &[Half; 64], half: Half) -> [u8; 64]
     requires { ⌜ pairs ≤ 32 ⌝ }
     ensures { λ r. ⌜ ((i : ℕ) → i < pairs → at r i ≡ half-of (at (now (entries .entry))) (sides (now (halves .entry))) (side half) i) ⌝ }
 {
@@ -250,8 +310,8 @@ fn set_layer(
 // Routes on half the wires, twice, between the first and the last pairs; the settings stand from the place `start` on.
 fn route_over(
     levels: usize,
-    entries: &[usize; 64],
-    inverse: &[usize; 64],
+    entries: &[u8; 64],
+    inverse: &[u8; 64],
     settings: &mut [Setting],
     start: usize,
 )
@@ -275,54 +335,4 @@ fn route_over(
     let odd_back = halve(pairs, inverse, &starts, Half::Odd);
     route_over(levels - 1, &odd, &odd_back, settings, start + pairs + inner);
     set_layer(settings, start + pairs + 2 * inner, &ends, 1, pairs - 1);
-}
-
-// The plan in which the halves of the wires are routed between two layers of pairs.
-#[derive(Clone, Copy)]
-pub struct Butterfly {
-    levels: usize,
-    ghost fits: { (1 ≤ levels) × (levels ≤ 6) },
-}
-
-impl Butterfly {
-    // The butterfly over 2, 4, 8, 16, 32 or 64 wires.
-    pub fn new(wires: usize) -> Result<Butterfly, Refusal>
-        ensures { λ r. ⌜ Cases r (λ b. (2 ^ (b .levels) ≡ wires) × (length (butterfly (b .levels)) + wires ≡ b .levels * wires + 1)) (Unfit wires) ⌝ }
-    {
-        for levels in 1..7 {
-            if width(levels) == wires {
-                return Ok(Butterfly { levels });
-            }
-        }
-        Err(Reason::UnfitWires.at(0))
-    }
-}
-
-pub impl Plan for Butterfly as ButterflyPlan {
-    ghost width = { λ b. 2 ^ (b .levels) };
-
-    ghost listing = { λ b. butterfly (b .levels) };
-
-    fn wires(&self) -> usize {
-        width(self.levels)
-    }
-
-    fn count(&self) -> usize {
-        size(self.levels)
-    }
-
-    fn comparator(&self, k: usize) -> Option<Comparator> {
-        listed(self.levels, k)
-    }
-
-    fn route(&self, permutation: &[usize], settings: &mut [Setting]) -> Result<(), Refusal> {
-        if permutation.len() != self.wires() || settings.len() != self.count() {
-            return Err(Reason::UnfitLength.at(0));
-        }
-        let Some(shuffle) = Shuffle::read(permutation) else {
-            return Err(Reason::NoPermutation.at(0));
-        };
-        route_over(self.levels, &shuffle.entries, &shuffle.inverse, settings, 0);
-        Ok(())
-    }
 }

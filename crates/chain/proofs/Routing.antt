@@ -3,22 +3,20 @@ use Prim.Native.Nat.{ℕ, zero, suc, _+_, _-_, _*_, _<_, _≤_}
 use mathlib.Core.Path.{_≡_, refl, sym, _∙_, ap, subst}
 use mathlib.Core.List.{List, [], _∷_, _++_, map}
 use native.Mathlib.Omega.{arith}
-use lib.Dec.{eqb}
 use lib.ListN.{length}
 use Rattle.std.specs.Iters.{counting}
 use Rattle.std.specs.Options.{mapped}
 use Rattle.std.specs.declared.option.Option.the-variants.{None, Some}
 use Rattle.std.proofs.shelf.Lists.{length-append, append-assoc, append-nil}
 use Rattle.std.proofs.shelf.Counted.{length-map-counting}
-use Rattle.std.proofs.shelf.Tests.{cond-true, cond-false, eq-eqb, ne-eqb}
 use Rattle.plan.specs.declared.Setting.{Setting}
-use Rattle.plan.specs.declared.Setting.the-variants.{Straight, Swapped}
 use Rattle.plan.specs.declared.Comparator.{Comparator}
-use Rattle.plan.specs.Plans.{on, nth, source}
+use Rattle.plan.specs.Plans.{on, at, nth, source, Permutation, Tabled, Brings}
+use Rattle.plan.proofs.Running.{brings-from}
 use Rattle.plan.proofs.Places.{nth-left, nth-right, nth-map, nth-counting}
-use Rattle.chain.specs.Listing.{chain-from, chain}
+use Rattle.chain.specs.Listing.{chain-from, chain, Fits}
 use Rattle.chain.specs.Stages.{hit, Permutes, Brings-from}
-use Rattle.chain.proofs.Rows.{settled, permutes-rest, chain-more}
+use Rattle.chain.proofs.Rows.{settled, permutes-rest, chain-more, chain-lawful}
 
 chain-row : (j m : ℕ) → chain-from j (suc m) ≡ map (on j) (counting (j + 1) m) ++ chain-from (j + 1) m
 unfolding chain-from
@@ -95,8 +93,10 @@ goes-more j n p q o out ext h s e f g ss k x l =
 pub goes-all : (j n : ℕ) (p o : ℕ → ℕ) (out : List Setting) → n ≤ j → Goes j n p out o → Brings-from 0 n out o
 goes-all j n p o out h g x z l = ap (λ ss. source (chain n) ss x) (sym (append-nil out)) ∙ g [] (λ y hy ly. absurd (omega arith)) x (omega arith)
 
-pub hit-then : (w k : ℕ) (s : Setting) → k ≡ w → s ≡ Swapped → s ≡ hit w k
-hit-then w k s e f = f ∙ sym (cond-true (eqb k w) Swapped Straight (eq-eqb k w e))
-
-pub hit-else : (w k : ℕ) (s : Setting) → (k ≡ w → ⊥) → s ≡ Straight → s ≡ hit w k
-hit-else w k s e f = f ∙ sym (cond-false (eqb k w) Swapped Straight (ne-eqb k w e))
+-- the whole route
+pub routed : (n w : ℕ) (p es is : List ℕ) (ss : List Setting) → w ≡ n → Fits n → Tabled w p es is → length ss ≡ length (chain n) → Brings-from 0 w ss (at es) →
+    Permutation n p × Brings n (chain n) ss p
+routed n w p es is ss e f t l b =
+    let v : Permutation n p = subst (λ (z : ℕ). Permutation z p) e (t .permutation) in
+    let b′ : Brings-from 0 n ss (at es) = subst (λ (z : ℕ). Brings-from 0 z ss (at es)) e b in
+    (v, brings-from n (chain n) ss p (chain-lawful n f .within) l (v .long) (λ x h. b′ x (omega arith) (omega arith) ∙ t .same x (omega arith)))

@@ -98,16 +98,17 @@ pub record Inverse (n : ℕ) (p q : ℕ → ℕ) : Type 0 where
   pub back : (x : ℕ) → x < n → q (p x) ≡ x
   pub forth : (x : ℕ) → x < n → p (q x) ≡ x
 
--- the entries are no permutation of at most 64 wires
-abbrev pub Unreadable : List ℕ → Type 0
-Unreadable p = length p ≤ 64 → Permutation (length p) p → ⊥
+-- p is a permutation of n wires, of at most 64, with tables of its entries and of its inverse
+pub record Tabled (n : ℕ) (p entries inverse : List ℕ) : Type 0 where
+  pub narrow : n ≤ 64
+  pub permutation : Permutation n p
+  pub same : (x : ℕ) → x < n → at entries x ≡ at p x
+  pub back : Inverse n (at p) (at inverse)
 
--- a permutation of at most 64 wires, with tables of its entries and of its inverse
-pub record Tabled (p entries inverse : List ℕ) : Type 0 where
-  pub narrow : length p ≤ 64
-  pub permutation : Permutation (length p) p
-  pub same : (x : ℕ) → x < length p → at entries x ≡ at p x
-  pub back : Inverse (length p) (at p) (at inverse)
+-- why p is refused as a permutation of n wires: first for its length, or for more than 64 wires, then for its entries
+pub record Misread (n : ℕ) (p : List ℕ) (e : Refusal) : Type 0 where
+  pub lengths : (length p ≡ n → n ≤ 64 → ⊥) → e ≡ refused-at UnfitLength 0
+  pub entries : length p ≡ n → n ≤ 64 → (Permutation n p → ⊥) × (e ≡ refused-at NoPermutation 0)
 
 -- the other wire of a comparator, for one of its two wires
 abbrev pub crossed : Comparator → ℕ → ℕ

@@ -3,11 +3,11 @@ ghost use mathlib.Core.Path.{_≡_};
 ghost use mathlib.Core.Bool.{true};
 ghost use mathlib.Core.List.{List};
 ghost use lib.ListN.{length, getD};
-ghost use Rattle.std.specs.declared.option.Option.the-variants.{None};
 ghost use Rattle.std.specs.Options.{Cases as BySome};
-ghost use Rattle.std.specs.Results.{isOk};
+ghost use Rattle.std.specs.Orderings.{Decides};
+ghost use Rattle.std.specs.Results.{Cases, isOk};
 ghost use Rattle.plan.specs.declared.Comparator.{Comparator};
-ghost use Rattle.plan.specs.Plans.{setting-number, turned, run, nth, at, Lawful, Permutation, Inverse, Unreadable, Tabled, Routed, Ran, Brings};
+ghost use Rattle.plan.specs.Plans.{setting-number, turned, run, nth, at, Lawful, Permutation, Inverse, Tabled, Misread, Routed, Ran, Brings};
 ghost use Rattle.plan.specs.Sums.{Sums-along-routes};
 use refusal::Reason;
 use refusal::Refusal;
@@ -74,12 +74,19 @@ fn turn<T>(comparator: Comparator, setting: Setting, items: &mut [T])
     }
 }
 
+// Whether there is a setting for each comparator and an item on each wire.
+fn fits<P: Plan>(plan: &P, settings: usize, items: usize) -> bool
+    ensures { λ r. ⌜ Decides r ((settings ≡ length (P·Plan .listing (now (plan .entry)))) × (items ≡ P·Plan .width (now (plan .entry)))) ⌝ }
+{
+    settings == plan.count() && items == plan.wires()
+}
+
 // Runs a plan on items of any kind, where they stand.
 pub fn run_plan<P: Plan, T>(plan: &P, settings: &[Setting], items: &mut [T]) -> Result<(), Refusal>
     ensures ran { λ r. ⌜ Ran (P·Plan .width (now (plan .entry))) (P·Plan .listing (now (plan .entry))) (now (settings .entry)) (now (items .entry)) (now (items .exit)) r ⌝ }
     ensures moved { λ r. ⌜ (isOk r ≡ true → (p : List ℕ) → Brings (P·Plan .width (now (plan .entry))) (P·Plan .listing (now (plan .entry))) (now (settings .entry)) p → (j : ℕ) (d : T) → j < P·Plan .width (now (plan .entry)) → getD (now (items .exit)) j d ≡ getD (now (items .entry)) (at p j) d) ⌝ }
 {
-    if settings.len() != plan.count() || items.len() != plan.wires() {
+    if !fits(plan, settings.len(), items.len()) {
         return Err(Reason::UnfitLength.at(0));
     }
     for k in 0..settings.len() {
@@ -93,55 +100,62 @@ pub fn run_plan<P: Plan, T>(plan: &P, settings: &[Setting], items: &mut [T]) -> 
 // A permutation of at most 64 wires and its inverse, as tables whose first entries count.
 #[derive(Clone, Copy)]
 pub struct Shuffle {
-    pub entries: [usize; 64],
-    pub inverse: [usize; 64],
+    pub entries: [u8; 64],
+    pub inverse: [u8; 64],
 }
 
 impl Shuffle {
-    // Reads a permutation; none where the entries are not the numbers below their count, or are more than 64.
-    pub fn read(permutation: &[usize]) -> Option<Shuffle>
-        ensures { λ r. ⌜ BySome r (Unreadable (now (permutation .entry))) (λ s. Tabled (now (permutation .entry)) (s .entries) (s .inverse)) ⌝ }
+    // Reads a permutation of so many wires; refuses a list that is none.
+    pub fn read(permutation: &[usize], wires: usize) -> Result<Shuffle, Refusal>
+        ensures { λ r. ⌜ Cases r (λ s. Tabled wires (now (permutation .entry)) (s .entries) (s .inverse)) (Misread wires (now (permutation .entry))) ⌝ }
     {
-        match inverted(permutation) {
-            Some(inverse) => Some(Shuffle {
-                entries: copied(permutation),
-                inverse,
-            }),
-            None => None,
+        if permutation.len() != wires || wires > 64 {
+            return Err(Reason::UnfitLength.at(0));
         }
+        let Some(inverse) = inverted(permutation) else {
+            return Err(Reason::NoPermutation.at(0));
+        };
+        let entries = copied(permutation);
+        Ok(Shuffle { entries, inverse })
     }
 }
 
 // The entries in the first places of a table.
-fn copied(entries: &[usize]) -> [usize; 64]
-    requires { ⌜ length (now entries) ≤ 64 ⌝ }
+fn copied(entries: &[usize]) -> [u8; 64]
+    requires narrow { ⌜ length (now entries) ≤ 64 ⌝ }
+    requires below { ⌜ ((x : ℕ) → x < length (now entries) → at (now entries) x < length (now entries)) ⌝ }
     ensures { λ r. ⌜ ((x : ℕ) → x < length (now (entries .entry)) → at r x ≡ at (now (entries .entry)) x) ⌝ }
 {
     let mut table = [0; 64];
-    table[0..entries.len()].copy_from_slice(entries);
+    for x in 0..entries.len() {
+        table[x] = entries[x] as u8;
+    }
     table
 }
 
-// What stands in a table of wires where no wire is named.
-const NONE: usize = 64;
+// What stands in a table where no wire is named.
+const NONE: u8 = 64;
 
-// The inverse of a permutation, with a wire entered for each entry that was not there before.
-fn inverted(permutation: &[usize]) -> Option<[usize; 64]>
-    ensures { λ r. ⌜ BySome r (Unreadable (now (permutation .entry))) (λ q. (length (now (permutation .entry)) ≤ 64) × Permutation (length (now (permutation .entry))) (now (permutation .entry)) × Inverse (length (now (permutation .entry))) (at (now (permutation .entry))) (at q)) ⌝ }
+// Whether a wire is one of so many, and is not named in the table yet.
+fn is_new(table: &[u8; 64], wire: usize, wires: usize) -> bool
+    requires { ⌜ wires ≤ 64 ⌝ }
+    ensures { λ r. ⌜ Decides r ((wire < wires) × (at (now (table .entry)) wire ≡ 64)) ⌝ }
 {
-    if permutation.len() > 64 {
-        return None;
-    }
+    wire < wires && table[wire] == NONE
+}
+
+// The inverse of a permutation; none where an entry is no wire or stands there twice.
+fn inverted(permutation: &[usize]) -> Option<[u8; 64]>
+    requires { ⌜ length (now permutation) ≤ 64 ⌝ }
+    ensures { λ r. ⌜ BySome r (Permutation (length (now (permutation .entry))) (now (permutation .entry)) → ⊥) (λ q. Permutation (length (now (permutation .entry))) (now (permutation .entry)) × Inverse (length (now (permutation .entry))) (at (now (permutation .entry))) (at q)) ⌝ }
+{
     let mut inverse = [NONE; 64];
     for x in 0..permutation.len() {
         let y = permutation[x];
-        if y >= permutation.len() {
+        if !is_new(&inverse, y, permutation.len()) {
             return None;
         }
-        if inverse[y] != NONE {
-            return None;
-        }
-        inverse[y] = x;
+        inverse[y] = x as u8;
     }
     Some(inverse)
 }

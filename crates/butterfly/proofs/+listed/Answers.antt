@@ -39,7 +39,7 @@ returns-then-k-pairs-3 t c =
 pub returns-then-i-pairs : need.returns-then-i-pairs
 returns-then-i-pairs t c =
     let s = network-step (c .args .levels) (c .width-pairs .result) (omega arith) (c .width-pairs .ensures .value) in
-    ap Some (c .pair-of-then-i-pairs .ensures)
+    ap Some (c .last-pair .ensures)
     ∙ in-last (network (c .args .levels - 1)) (c .width-pairs .result) (c .size-inner .result) (c .args .k) _ (c .size-inner .ensures .value) (omega arith) refl (omega arith)
     ∙ ap (λ cs. nth cs (c .args .k)) (sym s)
 

@@ -11,10 +11,12 @@ loop-x-holds c = marked-none (length (c .args .permutation .now)) (c .args .perm
 
 pub loop-x-again : need.loop-x-again
 loop-x-again c =
-    marked-more (c .loop-x .x) _ (c .args .permutation .now) (c .loop-x .inverse) (omega arith) (omega arith) (omega arith) (omega arith) (c .loop-x .inv)
+    let d = c .is-new .ensures .0 (c .if-not-is-new .left) in
+    marked-more (c .loop-x .x) _ (c .args .permutation .now) (c .loop-x .inverse) (omega arith) (omega arith) (d .0) (d .1) (c .loop-x .inv)
 
 pub returns : need.returns
 returns c =
     let e : c .loop-x .x ≡ length (c .args .permutation .now) = omega arith in
-    let m : Marked (length (c .args .permutation .now)) (length (c .args .permutation .now)) (c .args .permutation .now) (c .loop-x .inverse) = subst (λ (z : ℕ). Marked z (length (c .args .permutation .now)) (c .args .permutation .now) (c .loop-x .inverse)) e (c .loop-x .inv) in
-    (omega arith, marked-permutation _ _ _ refl m, marked-inverse _ _ _ refl m)
+    let m : Marked (length (c .args .permutation .now)) (length (c .args .permutation .now)) (c .args .permutation .now) (c .loop-x .inverse) =
+    subst (λ (z : ℕ). Marked z (length (c .args .permutation .now)) (c .args .permutation .now) (c .loop-x .inverse)) e (c .loop-x .inv) in
+    (marked-permutation _ _ _ refl m, marked-inverse _ _ _ refl m)
