@@ -1,0 +1,43 @@
+-- How a record is taken off the front of bytes, in the steps of the code.
+use Prim.Native.Nat.{ℕ, _+_, _-_, _*_, _/_, _^_, _≤_}
+use mathlib.Core.Bool.{true, false}
+use mathlib.Core.List.{List, [], _∷_}
+use mathlib.Core.Path.{_≡_, refl, sym, _∙_, ap}
+use native.Mathlib.Omega.{arith}
+use borrow.Author.Tests.{eq-eqb, le-ltb}
+use lib.Dec.{eqb, ltb}
+use lib.ListN.{length, take, drop, getD}
+use Rattle.std.proofs.shelf.Lists.{take-rest}
+use Rattle.std.proofs.shelf.Tests.{cond-true, cond-false}
+use Rattle.std.specs.declared.option.Option.the-variants.{None, Some}
+use Rattle.std.specs.declared.result.Result.the-variants.{Ok, Err}
+use Rattle.roundfile.specs.Kinds.{kind-of, field-count, size}
+use Rattle.roundfile.specs.Records.{Content, content-of, parse, parse-kind, parse-fields}
+use Rattle.roundfile.specs.declared.kind.Kind.{Kind}
+
+-- the rest that the pattern of the code binds
+abbrev pub after-map : List ℕ → List ℕ
+after-map bytes = take (length bytes - 3) (drop 3 bytes)
+
+parse-front : (bytes : List ℕ) → 3 ≤ length bytes → parse bytes ≡ parse-kind (kind-of (getD bytes 0 0)) (getD bytes 1 0 * 256 + getD bytes 2 0) (after-map bytes)
+parse-front [] h = absurd (omega arith)
+parse-front (a ∷ []) h = absurd (omega arith)
+parse-front (a ∷ b ∷ []) h = absurd (omega arith)
+parse-front (a ∷ b ∷ c ∷ rest) h = ap (parse-kind (kind-of a) (b * 256 + c)) (sym (take-rest (a ∷ b ∷ c ∷ rest) 3))
+
+-- fields that the kind has, and that are all there
+pub fields-there : (kind : Kind) (map : ℕ) (rest : List ℕ) → map / 2 ^ field-count kind ≡ 0 → size kind map rest ≤ length rest →
+    parse-fields kind map rest ≡ Ok (content-of kind map (take (size kind map rest) rest), drop (size kind map rest) rest)
+fields-there kind map rest within whole =
+    cond-true _ _ _ (eq-eqb (map / 2 ^ field-count kind) 0 within)
+    ∙ cond-false _ _ _ (le-ltb (length rest) (size kind map rest) whole)
+
+pub record-there : (bytes : List ℕ) (kind : Kind) (map n : ℕ) → 3 ≤ length bytes → kind-of (getD bytes 0 0) ≡ Some kind → map ≡ getD bytes 1 0 * 256 + getD bytes 2 0 →
+    map / 2 ^ field-count kind ≡ 0 → n ≡ size kind map (after-map bytes) → n ≤ length (after-map bytes) →
+    parse bytes ≡ Ok (content-of kind map (take n (after-map bytes)), drop n (after-map bytes))
+record-there bytes kind map n three known is within sized whole =
+    parse-front bytes three
+    ∙ ap (λ k. parse-kind k (getD bytes 1 0 * 256 + getD bytes 2 0) (after-map bytes)) known
+    ∙ ap (λ m. parse-fields kind m (after-map bytes)) (sym is)
+    ∙ fields-there kind map (after-map bytes) within (omega arith)
+    ∙ ap (λ k. Ok (content-of kind map (take k (after-map bytes)), drop k (after-map bytes))) (sym sized)

@@ -1,0 +1,4 @@
+pub mod Number
+pub mod Kinds
+pub mod Fields
+pub mod Records

@@ -1,0 +1,4 @@
+pub mod kind;
+mod number;
+pub mod parts;
+pub mod record;
