@@ -2,3 +2,4 @@ pub mod Number
 pub mod Kinds
 pub mod Fields
 pub mod Records
+pub mod Reading

@@ -1,4 +1,5 @@
 pub mod kind;
 mod number;
 pub mod parts;
+pub mod reader;
 pub mod record;
