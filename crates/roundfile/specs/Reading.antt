@@ -121,3 +121,9 @@ abbrev pub found : Result (Option Entry) Refusal → Result (Option Found) Refus
 found (Ok None) = Ok None
 found (Ok (Some entry)) = Ok (Some (record { offset = entry .offset; holds = content (entry .record) }))
 found (Err r) = Err r
+
+-- What holds where the call gave a record. (The calls come to an end, since each record that is given takes three bytes or more.)
+abbrev pub goes-on : Result (Option Entry) Refusal → Type 0 → Type 0
+goes-on (Ok None) P = Unit {0}
+goes-on (Ok (Some entry)) P = P
+goes-on (Err r) P = Unit {0}

@@ -1,5 +1,7 @@
+ghost use Prim.Native.Nat.{_+_, _≤_};
+ghost use lib.ListN.{length};
 ghost use mathlib.Core.Path.{_≡_};
-ghost use Rattle.roundfile.specs.Reading.{after, open-file, opened, place, step, found, answer, left};
+ghost use Rattle.roundfile.specs.Reading.{after, open-file, opened, place, step, found, answer, left, goes-on};
 use crate::kind::Kind;
 use crate::record::Record;
 use crate::record::read_record;
@@ -73,6 +75,7 @@ impl<'a> Reader<'a> {
     pub fn next_record(&mut self) -> Result<Option<Entry<'a>>, Refusal>
         ensures gives { λ r. ⌜ found r ≡ answer (step (place (now (self .entry)))) ⌝ }
         ensures leaves { λ _. ⌜ place (now (self .exit)) ≡ left (place (now (self .entry))) (step (place (now (self .entry)))) ⌝ }
+        ensures ends { λ r. ⌜ goes-on r (length (now (now (self .exit) .rest)) + 3 ≤ length (now (now (self .entry) .rest))) ⌝ }
     {
         let offset = self.end.saturating_sub(self.rest.len());
         if self.rest.is_empty() {
