@@ -1,3 +1,4 @@
 pub mod Numbers
 pub mod Parses
 pub mod Opens
+pub mod Writes

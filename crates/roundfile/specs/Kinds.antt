@@ -21,6 +21,15 @@ kind-of byte =
     (cond (eqb byte 5) (Some Close)
     (cond (eqb byte 6) (Some Expel) None)))))
 
+-- The first byte of a record of the kind.
+abbrev pub byte-of : Kind → ℕ
+byte-of Opening = 1
+byte-of Draws = 2
+byte-of Post = 3
+byte-of Comparator = 4
+byte-of Close = 5
+byte-of Expel = 6
+
 -- How many fields a record of the kind can have: the fields of bit 0 and up.
 abbrev pub field-count : Kind → ℕ
 field-count Opening = 5

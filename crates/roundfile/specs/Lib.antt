@@ -3,3 +3,4 @@ pub mod Kinds
 pub mod Fields
 pub mod Records
 pub mod Reading
+pub mod Writing

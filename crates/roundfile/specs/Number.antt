@@ -19,6 +19,10 @@ number bytes = number-after 0 bytes
 abbrev pub number-at : ℕ → List ℕ → ℕ → Option ℕ
 number-at width bytes start = cond (leb (start + width) (length bytes)) (Some (number (take width (drop start bytes)))) None
 
+-- The two bytes that write a number below 2 ^ 16.
+abbrev pub two-bytes : ℕ → List ℕ
+two-bytes n = (n / 256 % 256) ∷ (n % 256) ∷ []
+
 -- The four bytes that write a number below 2 ^ 32.
 abbrev pub four-bytes : ℕ → List ℕ
 four-bytes n = (n / 16777216 % 256) ∷ (n / 65536 % 256) ∷ (n / 256 % 256) ∷ (n % 256) ∷ []

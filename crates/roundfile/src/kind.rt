@@ -1,6 +1,6 @@
 ghost use Prim.Native.Nat.{_+_, _*_};
 ghost use mathlib.Core.Path.{_≡_};
-ghost use Rattle.roundfile.specs.Kinds.{kind-of, field-count, size};
+ghost use Rattle.roundfile.specs.Kinds.{kind-of, byte-of, field-count, size};
 use crate::number::u32_at;
 
 // What a record is; docs/round-file.md has the fields of each kind.
@@ -27,6 +27,20 @@ impl Kind {
             5 => Some(Kind::Close),
             6 => Some(Kind::Expel),
             _ => None,
+        }
+    }
+
+    // The first byte of a record of this kind.
+    pub fn byte(self) -> u8
+        ensures { λ r. ⌜ r ≡ byte-of self ⌝ }
+    {
+        match self {
+            Kind::Opening => 1,
+            Kind::Draws => 2,
+            Kind::Post => 3,
+            Kind::Comparator => 4,
+            Kind::Close => 5,
+            Kind::Expel => 6,
         }
     }
 

@@ -3,3 +3,4 @@ mod number;
 pub mod parts;
 pub mod reader;
 pub mod record;
+pub mod writer;
