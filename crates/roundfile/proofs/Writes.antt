@@ -20,23 +20,6 @@ pub length-joined : (numbers : List ℕ) → length (joined four-bytes numbers) 
 length-joined [] = refl
 length-joined (n ∷ numbers) = omega (arith, length-joined numbers)
 
--- the two ways of a write
-pub too-short : (kind : Kind) (map : ℕ) (numbers buffer : List ℕ) → length buffer < 3 + 4 * length numbers →
-    (buffer ≡ written (record-bytes kind map numbers) buffer) × (Err (refused-at ShortBuffer 0) ≡ write-answer (record-bytes kind map numbers) buffer)
-too-short kind map numbers buffer h =
-    let less : length buffer < length (record-bytes kind map numbers) = omega (arith, length-joined numbers) in
-    (sym (cond-true _ _ _ (lt-ltb _ _ less)), sym (cond-true _ _ _ (lt-ltb _ _ less)))
-
-pub long-enough : (kind : Kind) (map : ℕ) (numbers buffer : List ℕ) → 3 + 4 * length numbers ≤ length buffer →
-    (record-bytes kind map numbers ++ drop (3 + 4 * length numbers) buffer ≡ written (record-bytes kind map numbers) buffer)
-    × (Ok tt ≡ write-answer (record-bytes kind map numbers) buffer)
-long-enough kind map numbers buffer h =
-    let long : 3 + 4 * length numbers ≡ length (record-bytes kind map numbers) = omega (arith, length-joined numbers) in
-    let enough : length (record-bytes kind map numbers) ≤ length buffer = omega arith in (
-      ap (λ n. record-bytes kind map numbers ++ drop n buffer) long ∙ sym (cond-false _ _ _ (le-ltb _ _ enough)),
-      sym (cond-false _ _ _ (le-ltb _ _ enough)),
-    )
-
 -- a buffer that began as start, after i numbers
 abbrev pub after-numbers : List ℕ → List ℕ → ℕ → List ℕ
 after-numbers start numbers i = (take 3 start ++ joined four-bytes (take i numbers)) ++ drop (3 + 4 * i) start

@@ -4,3 +4,4 @@ pub mod Fields
 pub mod Records
 pub mod Reading
 pub mod Writing
+pub mod Laws

@@ -33,9 +33,9 @@ all-fields = 4095
 abbrev pub comparator-bytes : Message → List ℕ
 comparator-bytes m = record-bytes Comparator all-fields (numbers-of m)
 
--- A buffer with bytes written to its front; one that is too short for them stays as it was, and is refused.
-abbrev pub written : List ℕ → List ℕ → List ℕ
-written bytes buffer = cond (ltb (length buffer) (length bytes)) buffer (bytes ++ drop (length bytes) buffer)
+-- A buffer with n bytes written to its front; one that is too short for them stays as it was, and is refused.
+abbrev pub written : ℕ → List ℕ → List ℕ → List ℕ
+written n bytes buffer = cond (ltb (length buffer) n) buffer (bytes ++ drop n buffer)
 
-abbrev pub write-answer : List ℕ → List ℕ → Result (Unit {0}) Refusal
-write-answer bytes buffer = cond (ltb (length buffer) (length bytes)) (Err (refused-at ShortBuffer 0)) (Ok tt)
+abbrev pub write-answer : ℕ → List ℕ → Result (Unit {0}) Refusal
+write-answer n buffer = cond (ltb (length buffer) n) (Err (refused-at ShortBuffer 0)) (Ok tt)

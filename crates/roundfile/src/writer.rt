@@ -1,10 +1,11 @@
-ghost use Prim.Native.Nat.{_+_, _*_, _≤_};
-ghost use lib.ListN.{length, take, drop};
+ghost use Prim.Native.Nat.{ℕ, _+_, _*_, _^_, _<_, _≤_};
+ghost use lib.ListN.{length, getD, take, drop};
 ghost use mathlib.Core.List.{_∷_, _++_};
 ghost use mathlib.Core.Path.{_≡_};
 ghost use Rattle.roundfile.specs.Kinds.{byte-of};
+ghost use Rattle.roundfile.specs.Laws.{Reads-back, Writes-what-was-read};
 ghost use Rattle.roundfile.specs.Number.{two-bytes, four-bytes};
-ghost use Rattle.roundfile.specs.Writing.{record-bytes, numbers-of, comparator-bytes, all-fields, written, write-answer};
+ghost use Rattle.roundfile.specs.Writing.{record-bytes, numbers-of, comparator-bytes, written, write-answer};
 use crate::kind::Kind;
 use crate::parts::Comparator;
 use refusal::Reason;
@@ -35,8 +36,9 @@ fn write_head(buffer: &mut [u8], kind: Kind, map: u16)
 // Writes a record whose standing fields are these numbers, or refuses a buffer that is too short for it.
 // What leaves defaulted fields out is to pick the map and the numbers, and call this.
 fn write_record(buffer: &mut [u8], kind: Kind, map: u16, numbers: &[u32]) -> Result<(), Refusal>
-    ensures after { λ _. ⌜ now (buffer .exit) ≡ written (record-bytes kind map (now (numbers .entry))) (now (buffer .entry)) ⌝ }
-    ensures answer { λ r. ⌜ r ≡ write-answer (record-bytes kind map (now (numbers .entry))) (now (buffer .entry)) ⌝ }
+    ensures after { λ _. ⌜ now (buffer .exit) ≡ written (3 + 4 * length (now (numbers .entry))) (record-bytes kind map (now (numbers .entry))) (now (buffer .entry)) ⌝ }
+    ensures answer { λ r. ⌜ r ≡ write-answer (3 + 4 * length (now (numbers .entry))) (now (buffer .entry)) ⌝ }
+    ensures fitting { λ _. ⌜ ((i : ℕ) → getD (now (numbers .entry)) i 0 < 2 ^ 32) ⌝ }
 {
     if buffer.len() < 3 + 4 * numbers.len() {
         return Err(Reason::ShortBuffer.at(0));
@@ -72,8 +74,10 @@ impl Comparator {
     // Writes the record with all twelve fields, 51 bytes, to the front of the buffer. A buffer that is
     // too short is refused and left as it was.
     pub fn write(&self, buffer: &mut [u8]) -> Result<(), Refusal>
-        ensures after { λ _. ⌜ now (buffer .exit) ≡ written (comparator-bytes (now (self .entry))) (now (buffer .entry)) ⌝ }
-        ensures answer { λ r. ⌜ r ≡ write-answer (comparator-bytes (now (self .entry))) (now (buffer .entry)) ⌝ }
+        ensures after { λ _. ⌜ now (buffer .exit) ≡ written 51 (comparator-bytes (now (self .entry))) (now (buffer .entry)) ⌝ }
+        ensures answer { λ r. ⌜ r ≡ write-answer 51 (now (buffer .entry)) ⌝ }
+        ensures back { λ _. ⌜ (51 ≤ length (now (buffer .entry)) → Reads-back (now (self .entry)) (now (buffer .exit)) (drop 51 (now (buffer .entry)))) ⌝ }
+        ensures same { λ _. ⌜ Writes-what-was-read ⌝ }
     {
         let numbers = self.numbers();
         write_record(buffer, Kind::Comparator, ALL_COMPARATOR_FIELDS, &numbers)
