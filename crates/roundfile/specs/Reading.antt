@@ -35,15 +35,24 @@ pub record Found : Type 0 where
 abbrev pub offset-at : Place → ℕ
 offset-at p = p .end - length (p .rest)
 
--- The first four bytes are M, I, X and R.
+-- The mark at the front of every file: M, I, X and R.
+abbrev pub mark : List ℕ
+mark = 77 ∷ 73 ∷ 88 ∷ 82 ∷ []
+
 abbrev pub marked : List ℕ → Bool
 marked bytes = eqb (getD bytes 0 0) 77 && (eqb (getD bytes 1 0) 73 && (eqb (getD bytes 2 0) 88 && eqb (getD bytes 3 0) 82))
 
+-- What follows the mark; none where there are over 65,536 bytes, or no mark.
+abbrev pub unmarked : List ℕ → Option (List ℕ)
+unmarked bytes = cond (ltb 65536 (length bytes)) None (cond (marked bytes) (Some (drop 4 bytes)) None)
+
 -- The place of the first record, or the refusal of what is no round file.
+abbrev pub open-at : ℕ → Option (List ℕ) → Result Place Refusal
+open-at end None = Err (refused-at NoRoundFile 0)
+open-at end (Some rest) = Ok (record { stage = Start; end = end; rest = rest })
+
 abbrev pub open-file : List ℕ → Result Place Refusal
-open-file bytes =
-    cond (ltb 65536 (length bytes)) (Err (refused-at NoRoundFile 0))
-    (cond (marked bytes) (Ok (record { stage = Start; end = length bytes; rest = drop 4 bytes })) (Err (refused-at NoRoundFile 0)))
+open-file bytes = open-at (length bytes) (unmarked bytes)
 
 -- First an opening, then two draws, then no more of these.
 abbrev pub after : Stage → Kind → Option Stage

@@ -16,7 +16,7 @@ pub enum Kind {
 
 impl Kind {
     // The kind that a record's first byte names.
-    pub fn from_byte(byte: u8) -> Option<Kind>
+    pub(crate) fn from_byte(byte: u8) -> Option<Kind>
         ensures { λ r. ⌜ r ≡ kind-of byte ⌝ }
     {
         match byte {
@@ -31,7 +31,7 @@ impl Kind {
     }
 
     // The first byte of a record of this kind.
-    pub fn byte(self) -> u8
+    pub(crate) fn byte(self) -> u8
         ensures { λ r. ⌜ r ≡ byte-of self ⌝ }
     {
         match self {
@@ -45,7 +45,7 @@ impl Kind {
     }
 
     // How many fields a record of this kind can have.
-    pub fn field_count(self) -> u32
+    pub(crate) fn field_count(self) -> u32
         ensures { λ r. ⌜ r ≡ field-count self ⌝ }
     {
         match self {
@@ -58,7 +58,7 @@ impl Kind {
     }
 
     // How many bytes the fields take that `map` names, in a record of which `rest` follows the map.
-    pub fn size(self, map: u16, rest: &[u8]) -> usize
+    pub(crate) fn size(self, map: u16, rest: &[u8]) -> usize
         ensures { λ r. ⌜ r ≡ size self map (now (rest .entry)) ⌝ }
     {
         match self {

@@ -2,7 +2,7 @@ ghost use mathlib.Core.Path.{_≡_};
 ghost use Rattle.roundfile.specs.Number.{number-at};
 
 // The number in the four bytes from `start` on, most significant byte first; none where the bytes end before.
-pub fn u32_at(bytes: &[u8], start: usize) -> Option<u32>
+pub(crate) fn u32_at(bytes: &[u8], start: usize) -> Option<u32>
     ensures { λ r. ⌜ r ≡ number-at 4 (now (bytes .entry)) start ⌝ }
 {
     let [a, b, c, d, ..] = bytes.get(start..)? else {
@@ -12,7 +12,7 @@ pub fn u32_at(bytes: &[u8], start: usize) -> Option<u32>
 }
 
 // The same of eight bytes.
-pub fn u64_at(bytes: &[u8], start: usize) -> Option<u64>
+pub(crate) fn u64_at(bytes: &[u8], start: usize) -> Option<u64>
     ensures { λ r. ⌜ r ≡ number-at 8 (now (bytes .entry)) start ⌝ }
 {
     let [a, b, c, d, e, f, g, h, ..] = bytes.get(start..)? else {

@@ -1,7 +1,8 @@
 ghost use Prim.Native.Nat.{_+_, _≤_};
 ghost use lib.ListN.{length};
 ghost use mathlib.Core.Path.{_≡_};
-ghost use Rattle.roundfile.specs.Reading.{after, open-file, opened, place, step, found, answer, left, goes-on};
+ghost use Rattle.std.specs.Options.{mapped};
+ghost use Rattle.roundfile.specs.Reading.{after, unmarked, open-file, opened, place, step, found, answer, left, goes-on};
 use crate::kind::Kind;
 use crate::record::Record;
 use crate::record::read_record;
@@ -53,15 +54,25 @@ impl Stage {
     }
 }
 
+// What follows the mark of a round file; none where the file is too long or does not begin with the mark.
+fn after_mark(file: &[u8]) -> Option<&[u8]>
+    ensures { λ r. ⌜ mapped now r ≡ unmarked (now (file .entry)) ⌝ }
+{
+    if file.len() > LONGEST {
+        return None;
+    }
+    match file {
+        [b'M', b'I', b'X', b'R', rest @ ..] => Some(rest),
+        _ => None,
+    }
+}
+
 impl<'a> Reader<'a> {
     // A reader at the first record of a file, or the refusal of what is no round file.
     pub fn new(file: &'a [u8]) -> Result<Reader<'a>, Refusal>
         ensures { λ r. ⌜ opened r ≡ open-file (now (file .entry)) ⌝ }
     {
-        if file.len() > LONGEST {
-            return Err(Reason::NoRoundFile.at(0));
-        }
-        let [b'M', b'I', b'X', b'R', rest @ ..] = file else {
+        let Some(rest) = after_mark(file) else {
             return Err(Reason::NoRoundFile.at(0));
         };
         Ok(Reader {
