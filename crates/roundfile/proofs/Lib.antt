@@ -4,3 +4,4 @@ pub mod Opens
 pub mod Writes
 pub mod Laws
 pub mod Rewrites
+pub mod Files
