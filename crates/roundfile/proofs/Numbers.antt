@@ -18,12 +18,12 @@ number-there width bytes start h =
     ap (λ b. cond b (Some (number (take width (drop start bytes)))) None) (le-leb (start + width) (length bytes) h)
 
 front-four : (bytes : List ℕ) → 4 ≤ length bytes →
-    number (take 4 bytes) ≡ getD bytes 0 0 * 16777216 + getD bytes 1 0 * 65536 + getD bytes 2 0 * 256 + getD bytes 3 0
+    number (take 4 bytes) ≡ number (getD bytes 0 0 ∷ getD bytes 1 0 ∷ getD bytes 2 0 ∷ getD bytes 3 0 ∷ [])
 front-four [] h = absurd (omega arith)
 front-four (a ∷ []) h = absurd (omega arith)
 front-four (a ∷ b ∷ []) h = absurd (omega arith)
 front-four (a ∷ b ∷ c ∷ []) h = absurd (omega arith)
-front-four (a ∷ b ∷ c ∷ d ∷ more) h = omega arith
+front-four (a ∷ b ∷ c ∷ d ∷ more) h = refl
 
 front-eight : (bytes : List ℕ) → 8 ≤ length bytes →
     number (take 8 bytes) ≡ getD bytes 0 0 * 72057594037927936 + getD bytes 1 0 * 281474976710656 + getD bytes 2 0 * 1099511627776 + getD bytes 3 0 * 4294967296
@@ -45,7 +45,7 @@ from-start width n bytes part start is long h e =
     number-there width bytes start (omega arith) ∙ ap (λ p. Some (number (take width p))) (sym (is ∙ take-rest bytes start)) ∙ ap Some e
 
 pub four-from : (bytes part : List ℕ) (start : ℕ) → part ≡ take (length bytes - start) (drop start bytes) → length part + start ≡ length bytes → 4 ≤ length part →
-    number-at 4 bytes start ≡ Some (getD part 0 0 * 16777216 + getD part 1 0 * 65536 + getD part 2 0 * 256 + getD part 3 0)
+    number-at 4 bytes start ≡ Some (number (getD part 0 0 ∷ getD part 1 0 ∷ getD part 2 0 ∷ getD part 3 0 ∷ []))
 four-from bytes part start is long h = from-start 4 _ bytes part start is long h (front-four part h)
 
 pub eight-from : (bytes part : List ℕ) (start : ℕ) → part ≡ take (length bytes - start) (drop start bytes) → length part + start ≡ length bytes → 8 ≤ length part →

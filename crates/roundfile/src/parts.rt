@@ -1,6 +1,6 @@
 ghost use Prim.Native.Nat.{_<_};
 ghost use mathlib.Core.Path.{_≡_};
-ghost use Rattle.roundfile.specs.Fields.{field, word, opening-of, post-of, comparator-of, default-number};
+ghost use Rattle.roundfile.specs.Fields.{stands, start, field, word, opening-of, post-of, comparator-of, default-number};
 use crate::number::u32_at;
 use crate::number::u64_at;
 
@@ -76,16 +76,32 @@ pub struct Comparator {
 }
 
 impl Fields<'_> {
-    // The number in the field of bit `index`, or `default` where that bit does not stand.
-    fn number_or(self, index: u32, default: u32) -> u32
-        requires { ⌜ index < 16 ⌝ }
-        ensures { λ r. ⌜ r ≡ field (self .entry .map) (now (self .entry .bytes)) index default ⌝ }
+    // Whether the bit stands; bit 0 is the lowest.
+    fn stands(self, bit: u32) -> bool
+        requires { ⌜ bit < 16 ⌝ }
+        ensures { λ r. ⌜ r ≡ stands (self .entry .map) bit ⌝ }
     {
-        if (self.map >> index) % 2 == 0 {
-            return default;
+        (self.map >> bit) % 2 == 1
+    }
+
+    // Where the bytes of the field begin: after those of the lower fields that stand.
+    fn start(self, bit: u32) -> usize
+        requires { ⌜ bit < 16 ⌝ }
+        ensures { λ r. ⌜ r ≡ start (self .entry .map) bit ⌝ }
+    {
+        4 * (self.map % (1 << bit)).count_ones() as usize
+    }
+
+    // The number in the field of a bit, or `default` where the bit does not stand.
+    fn number_or(self, bit: u32, default: u32) -> u32
+        requires { ⌜ bit < 16 ⌝ }
+        ensures { λ r. ⌜ r ≡ field (self .entry .map) (now (self .entry .bytes)) bit default ⌝ }
+    {
+        if self.stands(bit) {
+            u32_at(self.bytes, self.start(bit)).unwrap_or(default)
+        } else {
+            default
         }
-        let lower = self.map % (1 << index);
-        u32_at(self.bytes, 4 * lower.count_ones() as usize).unwrap_or(default)
     }
 }
 

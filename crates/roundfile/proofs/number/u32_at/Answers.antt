@@ -11,4 +11,4 @@ pub returns : need.returns
 returns c =
     let got = c .in-Continue-get .ensures tt .finds .0 in
     let h : 4 ≤ length (c .in-Continue-get .field-0 .now) = omega (arith, ltb-false) in
-    ap Some (c .from-be-bytes .ensures) ∙ sym (four-from (c .args .bytes .now) (c .in-Continue-get .field-0 .now) (c .args .start) (got .2) (got .3) h)
+    ap Some (c .u32-of .ensures) ∙ sym (four-from (c .args .bytes .now) (c .in-Continue-get .field-0 .now) (c .args .start) (got .2) (got .3) h)
