@@ -5,3 +5,4 @@ pub mod Writes
 pub mod Laws
 pub mod Rewrites
 pub mod Files
+pub mod Wholes

@@ -39,11 +39,14 @@ field-count Comparator = 12
 field-count Close = 0
 field-count Expel = 0
 
--- How many bytes the fields take that the map names, where rest follows the map:
--- four for each bit that stands, and for draws a count in four bytes and eight for each word.
+-- How many bytes a count and its words take: four, and eight for each word.
+abbrev pub words-size : List ℕ → ℕ
+words-size bytes = 4 + 8 * valueOr (number-at 4 bytes 0) 0
+
+-- How many bytes the fields take that the map names, where rest follows the map: four for each bit that stands, but for draws.
 abbrev pub size : Kind → ℕ → List ℕ → ℕ
 size Opening map rest = 4 * ones map
-size Draws map rest = cond (eqb map 0) 0 (4 + 8 * valueOr (number-at 4 rest 0) 0)
+size Draws map rest = cond (eqb map 0) 0 (words-size rest)
 size Post map rest = 4 * ones map
 size Comparator map rest = 4 * ones map
 size Close map rest = 4 * ones map

@@ -1,10 +1,13 @@
 -- What holds of records as a whole, in the words of the format and not of its reader.
-use Prim.Native.Nat.{ℕ, _<_, _^_}
+use Prim.Native.Nat.{ℕ, _+_, _^_, _<_, _≤_}
+use mathlib.Core.Bool.{true}
 use mathlib.Core.List.{List, [], _∷_, _++_}
 use mathlib.Core.Path.{_≡_}
+use lib.Dec.{ltb}
 use lib.ListN.{length, getD}
+use Rattle.std.specs.Options.{isSome}
 use Rattle.std.specs.declared.result.Result.the-variants.{Ok}
-use Rattle.roundfile.specs.Fields.{comparator-of}
+use Rattle.roundfile.specs.Fields.{stands, start, field, word, default-number, comparator-of}
 use Rattle.roundfile.specs.Kinds.{byte-of, field-count, size}
 use Rattle.roundfile.specs.Number.{two-bytes}
 use Rattle.roundfile.specs.Records.{Content, opening, draws, post, comparator, close, expel, parse}
@@ -48,6 +51,15 @@ Reads-the-front = (bytes : List ℕ) (read : Content) (rest : List ℕ) → Byte
 -- Each record that the format allows is read, whatever follows it.
 abbrev pub Reads-all-that-fits : Type 0
 Reads-all-that-fits = (held : Content) (rest : List ℕ) → Fits-format held → parse (bytes-of held ++ rest) ≡ Ok (held, rest)
+
+-- In a record that the format allows each field that stands has its four bytes: no default stands in for missing ones.
+abbrev pub Fields-are-whole : Type 0
+Fields-are-whole = (kind : Kind) (map : ℕ) (fields : List ℕ) (bit : ℕ) → Fits-as kind map fields → stands map bit ≡ true → start map bit + 4 ≤ length fields
+
+-- And draws have just as many words as their count says.
+abbrev pub Draws-have-their-words : Type 0
+Draws-have-their-words = (map : ℕ) (fields : List ℕ) (index : ℕ) → Fits-as Draws map fields →
+    isSome (word fields index) ≡ ltb index (field map fields 0 default-number)
 
 -- The bytes begin with a comparator of all fields whose values are these.
 abbrev pub Reads-back : Message → List ℕ → List ℕ → Type 0

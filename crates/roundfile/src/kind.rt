@@ -1,6 +1,6 @@
 ghost use Prim.Native.Nat.{_+_, _*_};
 ghost use mathlib.Core.Path.{_≡_};
-ghost use Rattle.roundfile.specs.Kinds.{kind-of, byte-of, field-count, size};
+ghost use Rattle.roundfile.specs.Kinds.{kind-of, byte-of, field-count, size, words-size};
 use crate::number::u32_at;
 
 // What a record is; docs/round-file.md has the fields of each kind.
@@ -63,11 +63,18 @@ impl Kind {
     {
         match self {
             Kind::Draws if map == 0 => 0,
-            // the product is taken in 64 bits: a count of words is any number below 2^32
-            Kind::Draws => 4 + 8 * u32_at(rest, 0).unwrap_or(0) as usize,
+            Kind::Draws => words_size(rest),
             Kind::Opening | Kind::Post | Kind::Comparator | Kind::Close | Kind::Expel => {
                 4 * map.count_ones() as usize
             }
         }
     }
+}
+
+// How many bytes a count and its words take, where `bytes` begin with the count.
+fn words_size(bytes: &[u8]) -> usize
+    ensures { λ r. ⌜ r ≡ words-size (now (bytes .entry)) ⌝ }
+{
+    // in 64 bits: a count of words is any number below 2^32
+    4 + 8 * u32_at(bytes, 0).unwrap_or(0) as usize
 }

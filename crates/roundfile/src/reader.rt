@@ -3,6 +3,7 @@ ghost use lib.ListN.{length};
 ghost use mathlib.Core.Path.{_≡_};
 ghost use Rattle.std.specs.Options.{mapped};
 ghost use Rattle.roundfile.specs.Files.{Reads-round-files, Reads-nothing-else};
+ghost use Rattle.roundfile.specs.Laws.{Fields-are-whole, Draws-have-their-words};
 ghost use Rattle.roundfile.specs.Reading.{after, unmarked, open-file, opened, place, step, found, answer, left, goes-on};
 use crate::kind::Kind;
 use crate::record::Record;
@@ -74,6 +75,8 @@ impl<'a> Reader<'a> {
         ensures opens { λ r. ⌜ opened r ≡ open-file (now (file .entry)) ⌝ }
         ensures complete { λ _. ⌜ Reads-round-files ⌝ }
         ensures sound { λ _. ⌜ Reads-nothing-else ⌝ }
+        ensures fields { λ _. ⌜ Fields-are-whole ⌝ }
+        ensures words { λ _. ⌜ Draws-have-their-words ⌝ }
     {
         let Some(rest) = after_mark(file) else {
             return Err(Reason::NoRoundFile.at(0));

@@ -1,4 +1,4 @@
-use Prim.Native.Nat.{ℕ}
+use Prim.Native.Nat.{ℕ, _+_, _*_}
 use borrow.Author.Tests.{le-ltb}
 use lib.ListN.{length}
 use mathlib.Core.List.{List}
@@ -17,7 +17,7 @@ pub returns : need.returns
 returns c =
     let numbers : List ℕ = c .args .numbers .now in
     let start : List ℕ = c .write-head .last .buffer in
-    let long = le-ltb _ _ (c .if-buffer-numbers .left) in
+    let long = le-ltb (length (c .args .buffer .now)) (3 + 4 * length numbers) (omega arith) in
     let done : c .loop-index .index ≡ length numbers = omega arith in
     record {
       after =
