@@ -59,20 +59,22 @@ fn post<W: fmt::Write>(f: &mut fmt::Formatter<W>, post: Post) -> fmt::Result {
 
 fn comparator<W: fmt::Write>(f: &mut fmt::Formatter<W>, message: Comparator) -> fmt::Result {
     write!(f, "comparator")?;
-    field(f, "first_alpha", message.first_alpha)?;
-    field(f, "first_beta", message.first_beta)?;
-    field(f, "second_alpha", message.second_alpha)?;
-    field(f, "second_beta", message.second_beta)?;
-    field(f, "product_commitment", message.product_commitment)?;
-    field(f, "product_response", message.product_response)?;
-    field(f, "first_commitment", message.first_commitment)?;
-    field(f, "second_commitment", message.second_commitment)?;
-    field(f, "first_challenge", message.first_challenge)?;
-    field(f, "second_challenge", message.second_challenge)?;
-    field(f, "first_response", message.first_response)?;
-    field(f, "second_response", message.second_response)
-}
-
-fn field<W: fmt::Write>(f: &mut fmt::Formatter<W>, name: &str, number: u32) -> fmt::Result {
-    write!(f, " {name} {number}")
+    let fields = [
+        ("first_alpha", message.first_alpha),
+        ("first_beta", message.first_beta),
+        ("second_alpha", message.second_alpha),
+        ("second_beta", message.second_beta),
+        ("product_commitment", message.product_commitment),
+        ("product_response", message.product_response),
+        ("first_commitment", message.first_commitment),
+        ("second_commitment", message.second_commitment),
+        ("first_challenge", message.first_challenge),
+        ("second_challenge", message.second_challenge),
+        ("first_response", message.first_response),
+        ("second_response", message.second_response),
+    ];
+    for (name, number) in fields {
+        write!(f, " {name} {number}")?;
+    }
+    Ok(())
 }
