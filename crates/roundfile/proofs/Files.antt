@@ -15,7 +15,7 @@ use Rattle.std.specs.declared.option.Option.the-variants.{None, Some}
 use Rattle.std.specs.declared.result.Result.{Result}
 use Rattle.std.specs.declared.result.Result.the-variants.{Ok, Err}
 use Rattle.refusal.specs.declared.Reason.{Reason}
-use Rattle.roundfile.specs.Files.{Later, Is-opening, Is-draws, All, In-order, Round-file, from-offset, Gives, Reads-round-files, Reads-nothing-else}
+use Rattle.roundfile.specs.Files.{Later, Is-opening, Is-draws, All, In-order, Round-file, from-offset, Gives, Reads-round-files, Reads-nothing-else, File-laws}
 use Rattle.roundfile.specs.Laws.{Bytes, bytes-of, bytes-as, Fits-format}
 use Rattle.roundfile.specs.Reading.{Place, Found, Step, gave, ended, refused, mark, marked, unmarked, open-at, open-file, after, offset-at, step, step-at-end, step-over, step-placed}
 use Rattle.roundfile.specs.Records.{Content, opening, draws, post, comparator, close, expel, kind-in, parse}
@@ -88,7 +88,7 @@ gives-from stage end n (held ∷ more) fits order is =
       gives-from next end (n + length (bytes-of held)) more (fits .1) (order .2) (omega arith),
     )
 
-pub reads-round-files : Reads-round-files
+reads-round-files : Reads-round-files
 reads-round-files bytes records file =
     let rest : List ℕ = joined bytes-of records in
     let opens : open-file (mark ++ rest) ≡ Ok (record { stage = Start; end = length (mark ++ rest); rest = rest }) =
@@ -259,7 +259,7 @@ was-opened bytes p false true fits is e =
       ap (λ (q : Place). q .end) (sym place),
     )
 
-pub reads-nothing-else : Reads-nothing-else
+reads-nothing-else : Reads-nothing-else
 unfolding held-in Opened-as
 reads-nothing-else bytes p given small opened gives =
     let file = was-opened bytes p _ _ refl refl opened in
@@ -274,3 +274,6 @@ reads-nothing-else bytes p given small opened gives =
       },
       round .3 ∙ ap (λ n. from-offset n (held-in given)) first,
     )
+
+pub file-laws : File-laws
+file-laws = record { complete = reads-round-files; sound = reads-nothing-else }

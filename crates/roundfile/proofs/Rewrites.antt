@@ -15,7 +15,7 @@ use Rattle.std.specs.Joined.{joined}
 use Rattle.std.specs.Options.{valueOr}
 use Rattle.std.specs.declared.option.Option.the-variants.{None, Some}
 use Rattle.std.specs.declared.result.Result.the-variants.{Ok}
-use Rattle.roundfile.specs.Fields.{stands, start, field, comparator-of}
+use Rattle.roundfile.specs.Fields.{default-number, default-element, stands, start, field, comparator-of}
 use Rattle.roundfile.specs.Laws.{Bytes, bytes-as, Writes-what-was-read}
 use Rattle.roundfile.specs.Number.{number, number-at, four-bytes}
 use Rattle.roundfile.specs.Records.{comparator, parse}
@@ -61,18 +61,18 @@ numbers-from i (suc k) fields = number (take 4 (drop (4 * i) fields)) ∷ number
 numbers-read : (fields : List ℕ) → length fields ≡ 48 → numbers-of (comparator-of all-fields fields) ≡ numbers-from 0 12 fields
 unfolding numbers-from
 numbers-read fields long =
-    let e0 = full-field fields 0 1 refl (ones-ones 0) (omega arith) in
-    let e1 = full-field fields 1 1 refl (ones-ones 1) (omega arith) in
-    let e2 = full-field fields 2 1 refl (ones-ones 2) (omega arith) in
-    let e3 = full-field fields 3 1 refl (ones-ones 3) (omega arith) in
-    let e4 = full-field fields 4 1 refl (ones-ones 4) (omega arith) in
-    let e5 = full-field fields 5 0 refl (ones-ones 5) (omega arith) in
-    let e6 = full-field fields 6 1 refl (ones-ones 6) (omega arith) in
-    let e7 = full-field fields 7 1 refl (ones-ones 7) (omega arith) in
-    let e8 = full-field fields 8 0 refl (ones-ones 8) (omega arith) in
-    let e9 = full-field fields 9 0 refl (ones-ones 9) (omega arith) in
-    let e10 = full-field fields 10 0 refl (ones-ones 10) (omega arith) in
-    let e11 = full-field fields 11 0 refl (ones-ones 11) (omega arith) in
+    let e0 = full-field fields 0 default-element refl (ones-ones 0) (omega arith) in
+    let e1 = full-field fields 1 default-element refl (ones-ones 1) (omega arith) in
+    let e2 = full-field fields 2 default-element refl (ones-ones 2) (omega arith) in
+    let e3 = full-field fields 3 default-element refl (ones-ones 3) (omega arith) in
+    let e4 = full-field fields 4 default-element refl (ones-ones 4) (omega arith) in
+    let e5 = full-field fields 5 default-number refl (ones-ones 5) (omega arith) in
+    let e6 = full-field fields 6 default-element refl (ones-ones 6) (omega arith) in
+    let e7 = full-field fields 7 default-element refl (ones-ones 7) (omega arith) in
+    let e8 = full-field fields 8 default-number refl (ones-ones 8) (omega arith) in
+    let e9 = full-field fields 9 default-number refl (ones-ones 9) (omega arith) in
+    let e10 = full-field fields 10 default-number refl (ones-ones 10) (omega arith) in
+    let e11 = full-field fields 11 default-number refl (ones-ones 11) (omega arith) in
     cc
 
 -- numbers that were written are read again

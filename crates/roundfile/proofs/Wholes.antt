@@ -16,10 +16,11 @@ use Rattle.std.specs.Options.{isSome, valueOr}
 use Rattle.std.specs.declared.option.Option.the-variants.{None, Some}
 use Rattle.roundfile.specs.Fields.{stands, start, field, word, default-number}
 use Rattle.roundfile.specs.Kinds.{size}
-use Rattle.roundfile.specs.Laws.{Fits-as, Fields-are-whole, Draws-have-their-words}
+use Rattle.roundfile.specs.Laws.{Fits-as, Fields-are-whole, Draws-have-their-words, Record-laws}
 use Rattle.roundfile.specs.Number.{number, number-at}
 use Rattle.roundfile.specs.declared.kind.Kind.{Kind}
 use Rattle.roundfile.specs.declared.kind.Kind.the-variants.{Opening, Draws, Post, Comparator, Close, Expel}
+use Rattle.roundfile.proofs.Laws.{reads-the-front, reads-all-that-fits}
 
 -- a bit that stands is not among the lower ones
 one-more-stands : (map bit : ℕ) → stands map bit ≡ true → ones (map % 2 ^ bit) + 1 ≤ ones map
@@ -32,7 +33,7 @@ draws-whole : (none : Bool) (map bit count : ℕ) → eqb map 0 ≡ none → map
 draws-whole true map bit count is few more = absurd (omega (arith, ap ones (eqb-true map 0 is) ∙ ones-ones 0))
 draws-whole false map bit count is few more = omega (arith, ones-le 1 map few)
 
-pub fields-are-whole : Fields-are-whole
+fields-are-whole : Fields-are-whole
 fields-are-whole Opening map fields bit fit stand = omega (arith, one-more-stands map bit stand, fit .1)
 fields-are-whole Draws map fields bit fit stand =
     let more = one-more-stands map bit stand in
@@ -77,5 +78,8 @@ words-of false map fields index is few long =
     ∙ ap (λ n. ltb index (valueOr (number-at 4 fields n) 0)) (sym front)
     ∙ ap (ltb index) (sym (cond-true _ _ _ standing))
 
-pub draws-have-their-words : Draws-have-their-words
+draws-have-their-words : Draws-have-their-words
 draws-have-their-words map fields index fit = words-of (eqb map 0) map fields index refl (fit .0) (fit .1)
+
+pub record-laws : Record-laws
+record-laws = record { front = reads-the-front; fitting = reads-all-that-fits; fields = fields-are-whole; words = draws-have-their-words }

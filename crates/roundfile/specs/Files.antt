@@ -72,3 +72,8 @@ Reads-round-files = (bytes : List ℕ) (records : List Content) → Round-file b
 abbrev pub Reads-nothing-else : Type 0
 Reads-nothing-else = (bytes : List ℕ) (p : Place) (given : List Found) → Bytes bytes → open-file bytes ≡ Ok p → Gives p given →
     Round-file bytes (map (λ f. f .holds) given) × (given ≡ from-offset 4 (map (λ f. f .holds) given))
+
+-- The laws of files together.
+pub record File-laws : Type 0 where
+  pub complete : Reads-round-files
+  pub sound : Reads-nothing-else

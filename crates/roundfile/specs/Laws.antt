@@ -61,6 +61,13 @@ abbrev pub Draws-have-their-words : Type 0
 Draws-have-their-words = (map : ℕ) (fields : List ℕ) (index : ℕ) → Fits-as Draws map fields →
     isSome (word fields index) ≡ ltb index (field map fields 0 default-number)
 
+-- The laws of records together.
+pub record Record-laws : Type 0 where
+  pub front : Reads-the-front
+  pub fitting : Reads-all-that-fits
+  pub fields : Fields-are-whole
+  pub words : Draws-have-their-words
+
 -- The bytes begin with a comparator of all fields whose values are these.
 abbrev pub Reads-back : Message → List ℕ → List ℕ → Type 0
 Reads-back message bytes rest = (fields : List ℕ) × (parse bytes ≡ Ok (comparator all-fields fields, rest)) × (comparator-of all-fields fields ≡ message)

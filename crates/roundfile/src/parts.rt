@@ -4,7 +4,7 @@ ghost use Rattle.roundfile.specs.Fields.{stands, start, field, word, opening-o
 use crate::number::u32_at;
 use crate::number::u64_at;
 
-// What a field is where its bit does not stand: each default once.
+// What a field is where its bit does not stand: an element is the one, whose code is 1.
 const DEFAULT_NUMBER: u32 = 0;
 
 const DEFAULT_ELEMENT: u32 = 1;
@@ -20,6 +20,7 @@ pub struct Fields<'a> {
     pub(crate) bytes: &'a [u8],
 }
 
+// The part of a file that holds an opening's fields; the other parts likewise.
 #[derive(Clone, Copy)]
 pub struct OpeningPart<'a> {
     pub(crate) fields: Fields<'a>,

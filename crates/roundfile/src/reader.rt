@@ -2,8 +2,8 @@ ghost use Prim.Native.Nat.{_+_, _≤_};
 ghost use lib.ListN.{length};
 ghost use mathlib.Core.Path.{_≡_};
 ghost use Rattle.std.specs.Options.{mapped};
-ghost use Rattle.roundfile.specs.Files.{Reads-round-files, Reads-nothing-else};
-ghost use Rattle.roundfile.specs.Laws.{Fields-are-whole, Draws-have-their-words};
+ghost use Rattle.roundfile.specs.Files.{File-laws};
+ghost use Rattle.roundfile.specs.Laws.{Record-laws};
 ghost use Rattle.roundfile.specs.Reading.{after, unmarked, open-file, opened, place, step, found, answer, left, goes-on};
 use crate::kind::Kind;
 use crate::record::Record;
@@ -70,13 +70,12 @@ fn after_mark(file: &[u8]) -> Option<&[u8]>
 }
 
 impl<'a> Reader<'a> {
-    // A reader at the first record of a file, or the refusal of what is no round file.
+    // A reader at the first record of a file, or the refusal of what is no round file. What the records
+    // and the files are that a reader reads is told by the two laws.
     pub fn new(file: &'a [u8]) -> Result<Reader<'a>, Refusal>
         ensures opens { λ r. ⌜ opened r ≡ open-file (now (file .entry)) ⌝ }
-        ensures complete { λ _. ⌜ Reads-round-files ⌝ }
-        ensures sound { λ _. ⌜ Reads-nothing-else ⌝ }
-        ensures fields { λ _. ⌜ Fields-are-whole ⌝ }
-        ensures words { λ _. ⌜ Draws-have-their-words ⌝ }
+        ensures records { λ _. ⌜ Record-laws ⌝ }
+        ensures files { λ _. ⌜ File-laws ⌝ }
     {
         let Some(rest) = after_mark(file) else {
             return Err(Reason::NoRoundFile.at(0));
