@@ -1,7 +1,6 @@
 -- The line that is printed for a record: its offset, its kind, and each field by its name.
 use Prim.Native.Nat.{ℕ, zero, suc}
 use mathlib.Core.List.{List, [], _++_}
-use denote.Ref.{now}
 use lib.Chars.{codes}
 use Rattle.std.specs.Options.{valueOr}
 use Rattle.std.specs.Written.{decimal}

@@ -1,23 +1,23 @@
 -- The reader reads round files, and nothing else.
-use Prim.Native.Nat.{ℕ, zero, suc, _+_, _-_, _<_, _≤_}
-use mathlib.Core.Bool.{Bool, true, false, cond, _&&_}
+use Prim.Native.Nat.{ℕ, _+_, _-_, _<_, _≤_}
+use mathlib.Core.Bool.{Bool, true, false, cond}
 use mathlib.Core.List.{List, [], _∷_, _++_, map}
 use mathlib.Core.Path.{_≡_, refl, sym, _∙_, ap, subst}
 use native.Mathlib.Omega.{arith}
-use borrow.Author.Tests.{eqb-true, eqb-false, ne-eqb, le-ltb, ltb-false}
+use borrow.Author.Tests.{eqb-true, ne-eqb, le-ltb, ltb-false}
 use lib.Dec.{eqb, ltb}
 use lib.ListN.{length, drop, getD}
 use Rattle.std.proofs.shelf.Lists.{length-append, nil-from-length, getD-append-add}
-use Rattle.std.proofs.shelf.Tests.{cond-true, cond-false, and-parts}
+use Rattle.std.proofs.shelf.Tests.{cond-false, and-parts}
 use Rattle.std.specs.Joined.{joined}
 use Rattle.std.specs.declared.option.Option.{Option}
 use Rattle.std.specs.declared.option.Option.the-variants.{None, Some}
 use Rattle.std.specs.declared.result.Result.{Result}
 use Rattle.std.specs.declared.result.Result.the-variants.{Ok, Err}
 use Rattle.refusal.specs.declared.Reason.{Reason}
-use Rattle.roundfile.specs.Files.{Later, Is-opening, Is-draws, All, In-order, Round-file, from-offset, Gives, Reads-round-files, Reads-nothing-else, File-laws}
-use Rattle.roundfile.specs.Laws.{Bytes, bytes-of, bytes-as, Fits-format}
-use Rattle.roundfile.specs.Reading.{Place, Found, Step, gave, ended, refused, mark, marked, unmarked, open-at, open-file, after, offset-at, step, step-at-end, step-over, step-placed}
+use Rattle.roundfile.specs.Files.{Later, Is-opening, Is-draws, All, In-order, from-offset, Gives, Reads-round-files, Reads-nothing-else, File-laws}
+use Rattle.roundfile.specs.Laws.{Bytes, bytes-of, Fits-format}
+use Rattle.roundfile.specs.Reading.{Place, Found, gave, ended, mark, marked, open-at, open-file, after, offset-at, step-at-end, step-over, step-placed}
 use Rattle.roundfile.specs.Records.{Content, opening, draws, post, comparator, close, expel, kind-in, parse}
 use Rattle.roundfile.specs.declared.reader.Stage.{Stage}
 use Rattle.roundfile.specs.declared.reader.Stage.the-variants.{Start, Opened, HalfDrawn, Drawn}

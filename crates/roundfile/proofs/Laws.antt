@@ -1,21 +1,20 @@
 -- The laws of records.
-use Prim.Native.Nat.{ℕ, zero, suc, _+_, _-_, _*_, _/_, _%_, _^_, _<_, _≤_}
+use Prim.Native.Nat.{ℕ, _+_, _*_, _/_, _%_, _^_, _<_, _≤_}
 use mathlib.Core.Bool.{Bool, true, false, cond}
 use mathlib.Core.List.{List, [], _∷_, _++_}
 use mathlib.Core.Path.{_≡_, refl, sym, _∙_, ap, subst}
 use native.Mathlib.Omega.{arith}
-use borrow.Author.Tests.{eqb-true, eqb-false}
+use borrow.Author.Tests.{eqb-true}
 use lib.Count.{ones, ones-ones}
 use lib.Dec.{eqb}
-use lib.ListN.{length, take, drop, getD}
-use Rattle.std.proofs.shelf.Lists.{append-assoc, length-append, take-at, drop-at, take-append-le, take-append-drop, take-take, nil-from-length, length-take-le}
-use Rattle.std.proofs.shelf.Tests.{cond-true, cond-false}
+use lib.ListN.{length, take, drop}
+use Rattle.std.proofs.shelf.Lists.{length-append, take-at, drop-at, take-append-le, take-append-drop, take-take, nil-from-length, length-take-le}
 use Rattle.std.specs.Options.{valueOr}
 use Rattle.std.specs.declared.option.Option.{Option}
 use Rattle.std.specs.declared.option.Option.the-variants.{None, Some}
-use Rattle.std.specs.declared.result.Result.the-variants.{Ok, Err}
+use Rattle.std.specs.declared.result.Result.the-variants.{Ok}
 use Rattle.roundfile.specs.Kinds.{kind-of, byte-of, field-count, size}
-use Rattle.roundfile.specs.Laws.{Bytes, bytes-as, bytes-of, Fits-as, Fits-format, Reads-the-front, Reads-all-that-fits}
+use Rattle.roundfile.specs.Laws.{bytes-as, bytes-of, Fits-as, Fits-format, Reads-the-front, Reads-all-that-fits}
 use Rattle.roundfile.specs.Number.{number, number-at, two-bytes}
 use Rattle.roundfile.specs.Records.{Content, opening, draws, post, comparator, close, expel, content-of, parse, parse-kind, parse-fields}
 use Rattle.roundfile.specs.declared.kind.Kind.{Kind}

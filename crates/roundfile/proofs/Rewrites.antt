@@ -1,6 +1,6 @@
 -- A comparator of all fields is read as it was written, and written as it was read.
 use Prim.Native.Nat.{ℕ, zero, suc, _+_, _*_, _/_, _%_, _^_, _<_, _≤_}
-use mathlib.Core.Bool.{true, cond}
+use mathlib.Core.Bool.{true}
 use mathlib.Core.List.{List, [], _∷_, _++_}
 use mathlib.Core.Logic.{inl, inr}
 use mathlib.Core.Path.{_≡_, refl, sym, _∙_, ap, subst}
@@ -13,18 +13,15 @@ use Rattle.std.proofs.shelf.Lists.{drop-drop, drop-all, drop-more, take-append-
 use Rattle.std.proofs.shelf.Tests.{cond-true, cases-lt}
 use Rattle.std.specs.Joined.{joined}
 use Rattle.std.specs.Options.{valueOr}
-use Rattle.std.specs.declared.option.Option.the-variants.{None, Some}
 use Rattle.std.specs.declared.result.Result.the-variants.{Ok}
-use Rattle.roundfile.specs.Fields.{default-number, default-element, stands, start, field, comparator-of}
-use Rattle.roundfile.specs.Laws.{Bytes, bytes-as, Writes-what-was-read}
+use Rattle.roundfile.specs.Fields.{default-number, default-element, stands, field, comparator-of}
+use Rattle.roundfile.specs.Laws.{Bytes, Writes-what-was-read}
 use Rattle.roundfile.specs.Number.{number, number-at, four-bytes}
 use Rattle.roundfile.specs.Records.{comparator, parse}
 use Rattle.roundfile.specs.Writing.{all-fields, numbers-of, comparator-bytes}
-use Rattle.roundfile.specs.declared.kind.Kind.the-variants.{Comparator}
 use Rattle.roundfile.specs.declared.parts.Comparator.{Comparator as Message}
 use Rattle.roundfile.proofs.Laws.{reads-all-that-fits, reads-the-front}
 use Rattle.roundfile.proofs.Numbers.{number-there}
-use Rattle.roundfile.proofs.Writes.{length-joined}
 
 number-of-four : (n : ℕ) → n < 2 ^ 32 → number (four-bytes n) ≡ n
 number-of-four n h =

@@ -6,7 +6,7 @@ use mathlib.Core.Logic.{inl, inr}
 use mathlib.Core.Path.{_≡_, refl, sym, _∙_, ap}
 use native.Mathlib.Nat.{mod-lt}
 use native.Mathlib.Omega.{arith}
-use borrow.Author.Tests.{eqb-true, eqb-false, ne-eqb, le-leb, lt-leb, lt-ltb, le-ltb}
+use borrow.Author.Tests.{eqb-true, eqb-false, le-leb, lt-leb, lt-ltb, le-ltb}
 use lib.Count.{ones, ones-step, ones-cat, ones-ones, ones-le}
 use lib.Dec.{eqb, leb, ltb}
 use lib.ListN.{length, take, drop}
@@ -15,10 +15,8 @@ use Rattle.std.proofs.shelf.Tests.{cases-lt, cond-true, cond-false}
 use Rattle.std.specs.Options.{isSome, valueOr}
 use Rattle.std.specs.declared.option.Option.the-variants.{None, Some}
 use Rattle.roundfile.specs.Fields.{stands, start, field, word, default-number}
-use Rattle.roundfile.specs.Kinds.{size}
-use Rattle.roundfile.specs.Laws.{Fits-as, Fields-are-whole, Draws-have-their-words, Record-laws}
+use Rattle.roundfile.specs.Laws.{Fields-are-whole, Draws-have-their-words, Record-laws}
 use Rattle.roundfile.specs.Number.{number, number-at}
-use Rattle.roundfile.specs.declared.kind.Kind.{Kind}
 use Rattle.roundfile.specs.declared.kind.Kind.the-variants.{Opening, Draws, Post, Comparator, Close, Expel}
 use Rattle.roundfile.proofs.Laws.{reads-the-front, reads-all-that-fits}
 

@@ -1,19 +1,14 @@
 -- A record of numbers, written into a buffer one number after the other.
-use Prim.Native.Nat.{ℕ, zero, suc, _+_, _*_, _<_, _≤_}
+use Prim.Native.Nat.{ℕ, _+_, _*_, _<_, _≤_}
 use mathlib.Core.List.{List, [], _∷_, _++_}
 use mathlib.Core.Path.{_≡_, refl, sym, _∙_, ap}
 use native.Mathlib.Omega.{arith}
-use borrow.Author.Tests.{lt-ltb, le-ltb}
 use lib.ListN.{length, take, drop, getD}
 use Rattle.std.proofs.shelf.Lists.{append-assoc, length-append, length-take-le, take-at, drop-at, drop-drop, take-more, take-all, joined-more}
-use Rattle.std.proofs.shelf.Tests.{cond-true, cond-false}
 use Rattle.std.specs.Joined.{joined}
-use Rattle.std.specs.declared.result.Result.the-variants.{Ok, Err}
-use Rattle.refusal.specs.Table.{refused-at}
-use Rattle.refusal.specs.declared.Reason.the-variants.{ShortBuffer}
 use Rattle.roundfile.specs.Kinds.{byte-of}
 use Rattle.roundfile.specs.Number.{two-bytes, four-bytes}
-use Rattle.roundfile.specs.Writing.{record-bytes, written, write-answer}
+use Rattle.roundfile.specs.Writing.{record-bytes}
 use Rattle.roundfile.specs.declared.kind.Kind.{Kind}
 
 pub length-joined : (numbers : List ℕ) → length (joined four-bytes numbers) ≡ 4 * length numbers

@@ -6,7 +6,7 @@ use lib.ListN.{length}
 use Rattle.std.specs.Joined.{joined}
 use Rattle.std.specs.declared.result.Result.the-variants.{Ok}
 use Rattle.roundfile.specs.Laws.{Bytes, bytes-of, Fits-format}
-use Rattle.roundfile.specs.Reading.{Place, Found, Step, gave, ended, mark, open-file, step}
+use Rattle.roundfile.specs.Reading.{Place, Found, gave, ended, mark, open-file, step}
 use Rattle.roundfile.specs.Records.{Content, opening, draws, post, comparator, close, expel}
 
 -- A record that is neither an opening nor draws.

@@ -1,6 +1,6 @@
 -- How a file is read, record by record.
 use Prim.Native.Nat.{ℕ, _-_}
-use mathlib.Core.Bool.{Bool, true, false, cond, _&&_, _||_}
+use mathlib.Core.Bool.{Bool, cond, _&&_}
 use mathlib.Core.List.{List, [], _∷_}
 use denote.Ref.{now}
 use lib.Dec.{eqb, ltb}

@@ -93,6 +93,7 @@ impl<'a> Reader<'a> {
         ensures leaves { λ _. ⌜ place (now (self .exit)) ≡ left (place (now (self .entry))) (step (place (now (self .entry)))) ⌝ }
         ensures ends { λ r. ⌜ goes-on r (length (now (now (self .exit) .rest)) + 3 ≤ length (now (now (self .entry) .rest))) ⌝ }
     {
+        // what is left is a part of the file, so this is no less than 4
         let offset = self.end.saturating_sub(self.rest.len());
         if self.rest.is_empty() {
             return match self.stage {

@@ -1,7 +1,6 @@
 use Prim.Native.Nat.{ℕ, _+_, _*_, _<_, _^_}
 use lib.ListN.{length, getD, drop}
-use mathlib.Core.List.{_++_}
-use mathlib.Core.Path.{_≡_, _∙_, ap, subst}
+use mathlib.Core.Path.{_∙_, ap, subst}
 use borrow.Author.Tests.{le-ltb}
 use Rattle.std.proofs.shelf.Tests.{cond-false}
 use Rattle.std.specs.Joined.{joined}
