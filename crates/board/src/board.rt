@@ -7,6 +7,7 @@ ghost use Rattle.board.specs.Stages.{turning};
 use crate::events::Stage;
 use elgamal::Ciphertext;
 
+pub mod calls;
 mod lists;
 
 // The wires and the start list are lent at opening, and written by the board's calls alone.
