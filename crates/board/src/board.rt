@@ -4,6 +4,7 @@ ghost use denote.Ref.{now as held};
 ghost use lib.ListN.{length};
 ghost use mathlib.Core.Path.{_≡_};
 ghost use Rattle.board.specs.Stages.{turning};
+ghost use Rattle.board.specs.declared.events.Stage.the-variants.{Gathering};
 use crate::events::Stage;
 use elgamal::Ciphertext;
 
@@ -24,8 +25,10 @@ pub struct Board<'a, E> {
     next: usize,
     ghost level: { length (held start) ≡ length (held wires) },
     ghost room: { posted ≤ length (held wires) },
+    ghost some: { 1 ≤ servers },
     ghost few: { servers ≤ 8 },
     ghost turns: { server ≤ servers },
+    ghost fresh: { (stage ≡ Gathering → server ≡ 0) },
     ghost done: { completed + turning stage ≤ server },
     ghost steps: { next ≤ 4096 },
 }

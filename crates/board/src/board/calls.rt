@@ -8,12 +8,14 @@ ghost use Rattle.elgamal.specs.Ciphertexts.{meaning};
 ghost use Rattle.board.specs.Calls.{Terms, event-meaning, Happens};
 ghost use Rattle.board.specs.States.{view, state-map, posted-state, closed-state, stepped-state, expelled-state};
 ghost use Rattle.board.specs.declared.events.Taken.the-variants.{Posted, Closed, Stepped, Expelled};
+ghost use Rattle.board.specs.declared.events.Stage.the-variants.{Gathering, Turning};
 ghost use Rattle.refusal.specs.Table.{refused-at};
 ghost use Rattle.refusal.specs.declared.Reason.the-variants.{BoardFull, BoardShort};
 use super::Board;
 use crate::events::{Event, Stage, Taken};
 use elgamal::Ciphertext;
 use plan::Comparator;
+use posting::comparison::Pair;
 use refusal::{Reason, Refusal};
 
 impl<'a, E: Copy> Board<'a, E> {
@@ -32,7 +34,7 @@ impl<'a, E: Copy> Board<'a, E> {
     }
 
     fn close(&mut self) -> Result<Taken, Refusal>
-        requires { ⌜ (1 ≤ now self .servers) × (now self .completed ≡ 0) ⌝ }
+        requires { ⌜ now self .stage ≡ Gathering ⌝ }
         ensures { λ r. ⌜ Cases r
             (λ t. (now (self .entry) .posted ≡ length (now (now (self .entry) .wires))) × (t ≡ Closed) × (view (now (self .exit)) ≡ closed-state (view (now (self .entry)))))
             (λ f. (now (self .entry) .posted < length (now (now (self .entry) .wires))) × (f ≡ refused-at BoardShort (now (self .entry) .next)) × (view (now (self .exit)) ≡ view (now (self .entry)))) ⌝ }
@@ -55,5 +57,28 @@ impl<'a, E: Copy> Board<'a, E> {
         self.restore();
         self.advance(self.completed);
         Taken::Expelled(server)
+    }
+
+    // Writes a step's outputs to the comparator's wires; after the last comparator the server is completed.
+    fn write(&mut self, on: Comparator, outputs: Pair<E>, count: usize) -> Taken
+        requires first { ⌜ on .first < length (now (now self .wires)) ⌝ }
+        requires second { ⌜ on .second < length (now (now self .wires)) ⌝ }
+        requires next { ⌜ now self .next < count ⌝ }
+        requires few { ⌜ count ≤ 4096 ⌝ }
+        requires stage { ⌜ now self .stage ≡ Turning ⌝ }
+        ensures answer { λ t. ⌜ t ≡ Stepped (now (self .entry) .server) (now (self .entry) .next) on ⌝ }
+        ensures state { λ _. ⌜ view (now (self .exit)) ≡ stepped-state count (view (now (self .entry))) (on .first) (on .second) (outputs .first) (outputs .second) ⌝ }
+    {
+        let server = self.server;
+        let comparator = self.next;
+        let Pair { first, second } = outputs;
+        self.wires[on.first] = first;
+        self.wires[on.second] = second;
+        self.next = comparator + 1;
+        if self.next == count {
+            self.keep();
+            self.advance(self.completed + 1);
+        }
+        Taken::Stepped(server, comparator, on)
     }
 }
