@@ -4,7 +4,7 @@ use mathlib.Core.List.{List}
 use mathlib.Core.Path.{_≡_}
 use Prim.Native.Nat.{ℕ, _+_, _-_, _*_}
 use lib.Dec.{eqb, ltb}
-use lib.ListN.{length, getD}
+use lib.ListN.{length}
 use Rattle.std.specs.declared.option.Option.{Option}
 use Rattle.std.specs.declared.option.Option.the-variants.{None, Some}
 use Rattle.std.specs.declared.result.Result.{Result}
@@ -17,7 +17,6 @@ use Rattle.group.specs.Operations.{Operations}
 use Rattle.plan.specs.Plans.{nth}
 use Rattle.plan.specs.declared.Comparator.{Comparator}
 use Rattle.posting.specs.Drawing.{buffer-fits}
-use Rattle.posting.specs.declared.comparison.Comparison.{Comparison}
 use Rattle.prover.specs.States.{message-meaning}
 use Rattle.prover.specs.declared.states.Message.{Message}
 use Rattle.refusal.specs.Table.{refused-at}
@@ -25,6 +24,7 @@ use Rattle.refusal.specs.declared.Reason.{Reason}
 use Rattle.refusal.specs.declared.Reason.the-variants.{UnfitLength, WrongStage, BoardFull, BoardShort}
 use Rattle.refusal.specs.declared.Refusal.{Refusal}
 use Rattle.source.specs.Words.{Words}
+use Rattle.board.specs.Steps.{comparison-at}
 use Rattle.board.specs.States.{State, posted-state, closed-state, stepped-state, expelled-state}
 use Rattle.board.specs.declared.events.Event.{Event}
 use Rattle.board.specs.declared.events.Event.the-variants.{Post, Close, Step, Expel}
@@ -63,19 +63,11 @@ module _ {Point : Type 0} (T : Terms Point) where
   abbrev pub question : State (Ciphertext Point) → ℕ
   question s = 4 * (length (T .comparators) * (s .server - 1) + s .next)
 
-  -- what a step's proofs speak of, on the comparator c
-  abbrev pub comparison-on : State (Ciphertext Point) → Comparator → Message Point ℕ → Comparison Point
-  comparison-on s c m = record {
-    key = T .key;
-    inputs = record { first = getD (s .wires) (c .first) (m .outputs .first); second = getD (s .wires) (c .second) (m .outputs .second) };
-    outputs = m .outputs
-  }
-
   -- A step is judged on the next comparator. That there is none, or none on these wires, no board from its opening on ever meets.
   abbrev pub judge-step : State (Ciphertext Point) → Message Point ℕ → Option Comparator → Option Reason
   judge-step s m None = Some WrongStage
   judge-step s m (Some c) =
-      unless (ltb (c .second) (length (s .wires))) WrongStage (judge (T .group) (T .exponents) (T .source) (comparison-on s c m) (m .proofs) (question s))
+      unless (ltb (c .second) (length (s .wires))) WrongStage (judge (T .group) (T .exponents) (T .source) (comparison-at (T .key) (s .wires) c (m .outputs)) (m .proofs) (question s))
 
   -- why a call is refused, with a posting buffer of so many bytes
   abbrev pub judge-call : State (Ciphertext Point) → Event Point ℕ → ℕ → Option Reason

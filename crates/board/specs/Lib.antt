@@ -1,3 +1,4 @@
 pub mod Stages
 pub mod States
 pub mod Calls
+pub mod Steps

@@ -10,6 +10,7 @@ use elgamal::Ciphertext;
 
 pub mod calls;
 mod lists;
+mod step;
 
 // The wires and the start list are lent at opening, and written by the board's calls alone.
 #[derive(Drop)]

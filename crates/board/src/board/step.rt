@@ -1,0 +1,50 @@
+// A step: the next comparator's outputs, checked and written.
+ghost use Prim.Native.Nat.{_+_, _-_, _*_, _<_, _≤_};
+ghost use mathlib.Core.Path.{_≡_};
+ghost use lib.ListN.{length};
+ghost use Rattle.elgamal.specs.Ciphertexts.{meaning};
+ghost use Rattle.plan.specs.Plans.{nth};
+ghost use Rattle.prover.specs.States.{message-meaning};
+ghost use Rattle.board.specs.Calls.{Terms, judge-step};
+ghost use Rattle.board.specs.States.{view, state-map};
+ghost use Rattle.board.specs.Steps.{comparison-at};
+ghost use Rattle.board.specs.declared.events.Stage.the-variants.{Turning};
+use super::Board;
+use crate::events::Taken;
+use equivalence::check::check;
+use group::{Exponent, Group};
+use plan::{Comparator, Plan};
+use posting::comparison::{Comparison, Pair};
+use prover::states::Message;
+use refusal::{Reason, Refusal};
+use source::Source;
+
+// The first of the four questions of a server's comparator.
+fn question_of(count: usize, server: usize, next: usize) -> u64
+    requires count { ⌜ count ≤ 4096 ⌝ }
+    requires server { ⌜ server ≤ 8 ⌝ }
+    requires turn { ⌜ 1 ≤ server ⌝ }
+    requires next { ⌜ next ≤ 4096 ⌝ }
+    ensures { λ r. ⌜ r ≡ 4 * (count * (server - 1) + next) ⌝ }
+{
+    4 * (count * (server - 1) + next) as u64
+}
+
+impl<'a, E: Copy> Board<'a, E> {
+    // What the step's proofs speak of, on a comparator within the wires.
+    fn comparison_on(&mut self, on: Comparator, outputs: Pair<E>) -> Comparison<E>
+        requires first { ⌜ on .first < length (now (now self .wires)) ⌝ }
+        requires second { ⌜ on .second < length (now (now self .wires)) ⌝ }
+        ensures is { λ r. ⌜ r ≡ comparison-at (now (self .entry) .key) (now (now (self .entry) .wires)) on outputs ⌝ }
+        ensures kept { λ _. ⌜ now (self .exit) ≡ now (self .entry) ⌝ }
+    {
+        let key = self.key;
+        let first = self.wires[on.first];
+        let second = self.wires[on.second];
+        Comparison {
+            key,
+            inputs: Pair { first, second },
+            outputs,
+        }
+    }
+}
