@@ -1,2 +1,4 @@
 pub mod Copies
 pub mod Copying
+pub mod Meanings
+pub mod Stepping

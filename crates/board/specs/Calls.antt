@@ -17,6 +17,7 @@ use Rattle.group.specs.Operations.{Operations}
 use Rattle.plan.specs.Plans.{nth}
 use Rattle.plan.specs.declared.Comparator.{Comparator}
 use Rattle.posting.specs.Drawing.{buffer-fits}
+use Rattle.posting.specs.declared.comparison.Pair.{Pair}
 use Rattle.prover.specs.States.{message-meaning}
 use Rattle.prover.specs.declared.states.Message.{Message}
 use Rattle.refusal.specs.Table.{refused-at}
@@ -106,3 +107,15 @@ module _ {Point : Type 0} (T : Terms Point) where
   -- The one definition of what a call does: in the state s, with a posting buffer of so many bytes, it answers r and leaves s′.
   abbrev pub Happens : State (Ciphertext Point) → Event Point ℕ → ℕ → Result Taken Refusal → State (Ciphertext Point) → Type 0
   Happens s e bytes r s′ = HappensBy (judge-call s e bytes) s e r s′
+
+-- the terms of a round, from its parts
+abbrev pub terms : {Point : Type 0} → Operations Point → Exponents → Words → Point → List Comparator → Terms Point
+terms G E S y cs = record { group = G; exponents = E; source = S; key = y; comparators = cs }
+
+-- what a step does to a board of elements, by a judgement
+abbrev pub StepHappens : {X : Type 0} → Option Reason → List Comparator → State (Ciphertext X) → Pair X → Result Taken Refusal → State (Ciphertext X) → Type 0
+StepHappens None cs s o (Ok t) s′ =
+    (c : Comparator) × (nth cs (s .next) ≡ Some c) × (t ≡ Stepped (s .server) (s .next) c) × (s′ ≡ stepped-state (length cs) s (c .first) (c .second) (o .first) (o .second))
+StepHappens None cs s o (Err f) s′ = ⊥
+StepHappens (Some why) cs s o (Ok t) s′ = ⊥
+StepHappens (Some why) cs s o (Err f) s′ = (f ≡ refused-at why (s .next)) × (s′ ≡ s)

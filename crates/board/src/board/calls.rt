@@ -60,7 +60,7 @@ impl<'a, E: Copy> Board<'a, E> {
     }
 
     // Writes a step's outputs to the comparator's wires; after the last comparator the server is completed.
-    fn write(&mut self, on: Comparator, outputs: Pair<E>, count: usize) -> Taken
+    pub(crate) fn write(&mut self, on: Comparator, outputs: Pair<E>, count: usize) -> Taken
         requires first { ⌜ on .first < length (now (now self .wires)) ⌝ }
         requires second { ⌜ on .second < length (now (now self .wires)) ⌝ }
         requires next { ⌜ now self .next < count ⌝ }

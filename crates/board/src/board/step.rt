@@ -5,7 +5,7 @@ ghost use lib.ListN.{length};
 ghost use Rattle.elgamal.specs.Ciphertexts.{meaning};
 ghost use Rattle.plan.specs.Plans.{nth};
 ghost use Rattle.prover.specs.States.{message-meaning};
-ghost use Rattle.board.specs.Calls.{Terms, judge-step};
+ghost use Rattle.board.specs.Calls.{judge-step, terms, StepHappens};
 ghost use Rattle.board.specs.States.{view, state-map};
 ghost use Rattle.board.specs.Steps.{comparison-at};
 ghost use Rattle.board.specs.declared.events.Stage.the-variants.{Turning};
@@ -47,4 +47,32 @@ impl<'a, E: Copy> Board<'a, E> {
             outputs,
         }
     }
+}
+
+// Judges a step on the next comparator, and writes its outputs where it is taken.
+pub(crate) fn step<G: Group, P: Plan, S: Source>(
+    board: &mut Board<'_, G::Element>,
+    group: &G,
+    plan: &P,
+    source: &S,
+    message: Message<G::Element, <G::Exponent as Exponent>::Posted>,
+    buffer: &mut [u8],
+) -> Result<Taken, Refusal>
+    requires stage { ⌜ now board .stage ≡ Turning ⌝ }
+    requires buffer { ⌜ 11 * G·Group .operations .width ≤ length (now buffer) ⌝ }
+    ensures { λ r. ⌜ StepHappens (judge-step (terms (G·Group .operations) (Exponent·Exponent .exponents) (S·Source .words (now (source .entry))) (G·Group .point (now (board .entry) .key)) (P·Plan .listing (now (plan .entry)))) (state-map (meaning (G·Group .point)) (view (now (board .entry)))) (message-meaning (G·Group .point) (Exponent·Exponent .number) message) (nth (P·Plan .listing (now (plan .entry))) (now (board .entry) .next))) (P·Plan .listing (now (plan .entry))) (view (now (board .entry))) (message .outputs) r (view (now (board .exit))) ⌝ }
+{
+    let next = board.next;
+    let Some(on) = plan.comparator(next) else {
+        return Err(Reason::WrongStage.at(next));
+    };
+    if on.second >= board.wires.len() {
+        return Err(Reason::WrongStage.at(next));
+    }
+    let count = plan.count();
+    let Message { outputs, proofs } = message;
+    let comparison = board.comparison_on(on, outputs);
+    let question = question_of(count, board.server, next);
+    check(group, source, comparison, proofs, question, buffer, next)?;
+    Ok(board.write(on, outputs, count))
 }
