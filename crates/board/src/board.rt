@@ -8,6 +8,7 @@ ghost use Rattle.board.specs.declared.events.Stage.the-variants.{Gathering};
 use crate::events::Stage;
 use elgamal::Ciphertext;
 
+pub mod call;
 pub mod calls;
 mod lists;
 mod step;

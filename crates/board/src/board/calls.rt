@@ -19,8 +19,9 @@ use posting::comparison::Pair;
 use refusal::{Reason, Refusal};
 
 impl<'a, E: Copy> Board<'a, E> {
-    fn post(&mut self, quote: Ciphertext<E>) -> Result<Taken, Refusal>
-        ensures { λ r. ⌜ Cases r
+    pub(crate) fn post(&mut self, quote: Ciphertext<E>) -> Result<Taken, Refusal>
+        ensures key { λ _. ⌜ now (self .exit) .key ≡ now (self .entry) .key ⌝ }
+        ensures outcome { λ r. ⌜ Cases r
             (λ t. (now (self .entry) .posted < length (now (now (self .entry) .wires))) × (t ≡ Posted (now (self .entry) .posted)) × (view (now (self .exit)) ≡ posted-state (view (now (self .entry))) quote))
             (λ f. (now (self .entry) .posted ≡ length (now (now (self .entry) .wires))) × (f ≡ refused-at BoardFull (now (self .entry) .next)) × (view (now (self .exit)) ≡ view (now (self .entry)))) ⌝ }
     {
@@ -33,9 +34,10 @@ impl<'a, E: Copy> Board<'a, E> {
         Ok(Taken::Posted(wire))
     }
 
-    fn close(&mut self) -> Result<Taken, Refusal>
+    pub(crate) fn close(&mut self) -> Result<Taken, Refusal>
         requires { ⌜ now self .stage ≡ Gathering ⌝ }
-        ensures { λ r. ⌜ Cases r
+        ensures key { λ _. ⌜ now (self .exit) .key ≡ now (self .entry) .key ⌝ }
+        ensures outcome { λ r. ⌜ Cases r
             (λ t. (now (self .entry) .posted ≡ length (now (now (self .entry) .wires))) × (t ≡ Closed) × (view (now (self .exit)) ≡ closed-state (view (now (self .entry)))))
             (λ f. (now (self .entry) .posted < length (now (now (self .entry) .wires))) × (f ≡ refused-at BoardShort (now (self .entry) .next)) × (view (now (self .exit)) ≡ view (now (self .entry)))) ⌝ }
     {
@@ -49,8 +51,9 @@ impl<'a, E: Copy> Board<'a, E> {
         Ok(Taken::Closed)
     }
 
-    fn expel(&mut self) -> Taken
+    pub(crate) fn expel(&mut self) -> Taken
         ensures answer { λ t. ⌜ t ≡ Expelled (now (self .entry) .server) ⌝ }
+        ensures key { λ _. ⌜ now (self .exit) .key ≡ now (self .entry) .key ⌝ }
         ensures state { λ _. ⌜ view (now (self .exit)) ≡ expelled-state (view (now (self .entry))) ⌝ }
     {
         let server = self.server;
@@ -67,6 +70,7 @@ impl<'a, E: Copy> Board<'a, E> {
         requires few { ⌜ count ≤ 4096 ⌝ }
         requires stage { ⌜ now self .stage ≡ Turning ⌝ }
         ensures answer { λ t. ⌜ t ≡ Stepped (now (self .entry) .server) (now (self .entry) .next) on ⌝ }
+        ensures key { λ _. ⌜ now (self .exit) .key ≡ now (self .entry) .key ⌝ }
         ensures state { λ _. ⌜ view (now (self .exit)) ≡ stepped-state count (view (now (self .entry))) (on .first) (on .second) (outputs .first) (outputs .second) ⌝ }
     {
         let server = self.server;

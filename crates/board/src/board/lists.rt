@@ -19,7 +19,8 @@ pub(crate) fn fill<T: Copy>(list: &mut [T], item: T)
 impl<'a, E: Copy> Board<'a, E> {
     // The wires become the list that the next turn starts from.
     pub(crate) fn keep(&mut self)
-        ensures { λ _. ⌜ view (now (self .exit)) ≡ kept-state (view (now (self .entry))) ⌝ }
+        ensures state { λ _. ⌜ view (now (self .exit)) ≡ kept-state (view (now (self .entry))) ⌝ }
+        ensures key { λ _. ⌜ now (self .exit) .key ≡ now (self .entry) .key ⌝ }
     {
         for k in 0..self.wires.len() {
             self.start[k] = self.wires[k];
@@ -28,7 +29,8 @@ impl<'a, E: Copy> Board<'a, E> {
 
     // The wires become what they were when the turn started.
     pub(crate) fn restore(&mut self)
-        ensures { λ _. ⌜ view (now (self .exit)) ≡ restored-state (view (now (self .entry))) ⌝ }
+        ensures state { λ _. ⌜ view (now (self .exit)) ≡ restored-state (view (now (self .entry))) ⌝ }
+        ensures key { λ _. ⌜ now (self .exit) .key ≡ now (self .entry) .key ⌝ }
     {
         for k in 0..self.start.len() {
             self.wires[k] = self.start[k];
@@ -38,7 +40,8 @@ impl<'a, E: Copy> Board<'a, E> {
     // The present turn is over: the next server begins, or the round is finished.
     pub(crate) fn advance(&mut self, completed: usize)
         requires { ⌜ completed ≤ now self .server ⌝ }
-        ensures { λ _. ⌜ view (now (self .exit)) ≡ advanced (view (now (self .entry))) completed ⌝ }
+        ensures state { λ _. ⌜ view (now (self .exit)) ≡ advanced (view (now (self .entry))) completed ⌝ }
+        ensures key { λ _. ⌜ now (self .exit) .key ≡ now (self .entry) .key ⌝ }
     {
         self.completed = completed;
         self.next = 0;

@@ -60,7 +60,8 @@ pub(crate) fn step<G: Group, P: Plan, S: Source>(
 ) -> Result<Taken, Refusal>
     requires stage { ⌜ now board .stage ≡ Turning ⌝ }
     requires buffer { ⌜ 11 * G·Group .operations .width ≤ length (now buffer) ⌝ }
-    ensures { λ r. ⌜ StepHappens (judge-step (terms (G·Group .operations) (Exponent·Exponent .exponents) (S·Source .words (now (source .entry))) (G·Group .point (now (board .entry) .key)) (P·Plan .listing (now (plan .entry)))) (state-map (meaning (G·Group .point)) (view (now (board .entry)))) (message-meaning (G·Group .point) (Exponent·Exponent .number) message) (nth (P·Plan .listing (now (plan .entry))) (now (board .entry) .next))) (P·Plan .listing (now (plan .entry))) (view (now (board .entry))) (message .outputs) r (view (now (board .exit))) ⌝ }
+    ensures key { λ _. ⌜ now (board .exit) .key ≡ now (board .entry) .key ⌝ }
+    ensures happens { λ r. ⌜ StepHappens (judge-step (terms (G·Group .operations) (Exponent·Exponent .exponents) (S·Source .words (now (source .entry))) (G·Group .point (now (board .entry) .key)) (P·Plan .listing (now (plan .entry)))) (state-map (meaning (G·Group .point)) (view (now (board .entry)))) (message-meaning (G·Group .point) (Exponent·Exponent .number) message) (nth (P·Plan .listing (now (plan .entry))) (now (board .entry) .next))) (P·Plan .listing (now (plan .entry))) (view (now (board .entry))) (message .outputs) r (view (now (board .exit))) ⌝ }
 {
     let next = board.next;
     let Some(on) = plan.comparator(next) else {

@@ -14,9 +14,10 @@ loop-k-again g c =
     , i .1
     , simp length-set (i .2)
     , copied-more (c .index-self-k .result) (c .loop-k .self .wires .now) (c .loop-k .self .start .now) (c .args .self .now .start .now) (c .loop-k .k) (ap (λ (s : State (Ciphertext (g .E .Denot))). s .start) (i .0)) (omega arith) (omega arith) (i .3)
+    , i .4
     )
 
 pub returns : need.returns
 returns g c =
     let i = c .loop-k .inv in
-    i .0 ∙ ap (with-wires (view (c .args .self .now))) (copied-all (c .loop-k .self .wires .now) (c .args .self .now .start .now) (c .loop-k .k) (omega arith) (omega arith) (i .3))
+    record { state = i .0 ∙ ap (with-wires (view (c .args .self .now))) (copied-all (c .loop-k .self .wires .now) (c .args .self .now .start .now) (c .loop-k .k) (omega arith) (omega arith) (i .3)); key = i .4 }

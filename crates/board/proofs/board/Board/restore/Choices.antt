@@ -11,3 +11,4 @@ Inv-loop-k g l =
     × (length (now (l .self .start)) ≡ length (now (l .entry .self .start)))
     × (length (now (l .self .wires)) ≡ length (now (l .entry .self .start)))
     × (take (l .k) (now (l .self .wires)) ≡ take (l .k) (now (l .entry .self .start)))
+    × (l .self .key ≡ l .entry .self .key)

@@ -26,7 +26,7 @@ returns-then-on-board g c =
     let m = message-meaning (g .G·Group .point) (g .Exponent·Exponent .number) (c .args .message) in
     let long = length-map (meaning (g .G·Group .point)) (c .args .board .now .wires .now) in
     let judged = ap (judge-step T s m) (sym (c .in-Some .ensures tt)) ∙ outside T s m (c .in-Some .on) (omega (arith, c .if-on-board .taken)) in
-    rw judged (c .at-then-on-board .ensures, refl)
+    record { key = refl; happens = rw judged (c .at-then-on-board .ensures, refl) }
 
 pub comparison-on-comparison-requires : need.comparison-on-comparison-requires
 comparison-on-comparison-requires g c κs =
@@ -72,7 +72,7 @@ returns-in-Break-check g c =
     let fits = le-leb (11 * G .width) (length (c .args .buffer .now)) (c .pre .buffer) in
     let e = err-from-errBy (c .from-residual .result) (c .from-residual .ensures .1) in
     let told = answer-err _ _ _ _ (simp fits at (c .in-Break-check .ensures tt .verdict)) in
-    rw (judged, told .1, e .1, e .2) (told .2, ap view kept)
+    record { key = ap (λ (x : Board (g .G·Element .Denot)). x .key) kept; happens = rw (judged, told .1, e .1, e .2) (told .2, ap view kept) }
 
 pub returns : need.returns
 returns g c =
@@ -97,7 +97,7 @@ returns g c =
     let fits = le-leb (11 * G .width) (length (c .args .buffer .now)) (c .pre .buffer) in
     let none = answer-ok _ _ _ (simp fits at (c .in-Continue-check .ensures tt .verdict)) in
     let Count : ℕ → Type 0 = λ n. view (c .write .last .self) ≡ stepped-state n (view b) (on .first) (on .second) (c .args .message .outputs .first) (c .args .message .outputs .second) in
-    rw (judged, none)
+    record { key = c .write .ensures .key ∙ ap (λ (x : Board (g .G·Element .Denot)). x .key) kept; happens = rw (judged, none)
       (on, sym (c .in-Some .ensures tt),
        c .write .ensures .answer ∙ ap (λ (x : Board (g .G·Element .Denot)). Stepped (x .server) (x .next) on) kept,
-       subst Count (c .count-count .ensures) (c .write .ensures .state ∙ ap (λ (x : Board (g .G·Element .Denot)). stepped-state (c .count-count .result) (view x) (on .first) (on .second) (c .args .message .outputs .first) (c .args .message .outputs .second)) kept))
+       subst Count (c .count-count .ensures) (c .write .ensures .state ∙ ap (λ (x : Board (g .G·Element .Denot)). stepped-state (c .count-count .result) (view x) (on .first) (on .second) (c .args .message .outputs .first) (c .args .message .outputs .second)) kept)) }
