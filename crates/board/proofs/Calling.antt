@@ -36,12 +36,12 @@ use Rattle.board.specs.declared.events.Taken.the-variants.{Posted, Closed}
 module _ {E P : Type 0} (T : Terms P) (point : E → P) (s s′ : State (Ciphertext E)) (bytes : ℕ) where
   -- what happens by a judgement, where it is the call's
   by : {j : Option Reason} (e : Event P ℕ) (r : Result Taken Refusal) → judge-call T (state-map (meaning point) s) e bytes ≡ j
-    → HappensBy T j (state-map (meaning point) s) e r (state-map (meaning point) s′) → Happens T (state-map (meaning point) s) e bytes r (state-map (meaning point) s′)
+      → HappensBy T j (state-map (meaning point) s) e r (state-map (meaning point) s′) → Happens T (state-map (meaning point) s) e bytes r (state-map (meaning point) s′)
   by {j} e r q h = subst (λ (k : Option Reason). HappensBy T k (state-map (meaning point) s) e r (state-map (meaning point) s′)) (sym q) h
 
   pub post-happens : (quote : Ciphertext E) (r : Result Taken Refusal) → s .stage ≡ Gathering
-    → Cases r (λ t. (s .posted < length (s .wires)) × (t ≡ Posted (s .posted)) × (s′ ≡ posted-state s quote)) (λ f. (s .posted ≡ length (s .wires)) × (f ≡ refused-at BoardFull (s .next)) × (s′ ≡ s))
-    → Happens T (state-map (meaning point) s) (Post (meaning point quote)) bytes r (state-map (meaning point) s′)
+      → Cases r (λ t. (s .posted < length (s .wires)) × (t ≡ Posted (s .posted)) × (s′ ≡ posted-state s quote)) (λ f. (s .posted ≡ length (s .wires)) × (f ≡ refused-at BoardFull (s .next)) × (s′ ≡ s))
+      → Happens T (state-map (meaning point) s) (Post (meaning point quote)) bytes r (state-map (meaning point) s′)
   post-happens quote (Ok t) stage o =
       let room = lt-ltb (s .posted) (length (s .wires)) (o .0) in
       let judged : judge-call T (state-map (meaning point) s) (Post (meaning point quote)) bytes ≡ None = simp (stage, length-map (meaning point) (s .wires), room) in
@@ -52,8 +52,8 @@ module _ {E P : Type 0} (T : Terms P) (point : E → P) (s s′ : State (Ciphert
       by (Post (meaning point quote)) (Err f) judged (o .1, ap (state-map (meaning point)) (o .2))
 
   pub close-happens : (r : Result Taken Refusal) → s .stage ≡ Gathering
-    → Cases r (λ t. (s .posted ≡ length (s .wires)) × (t ≡ Closed) × (s′ ≡ closed-state s)) (λ f. (s .posted < length (s .wires)) × (f ≡ refused-at BoardShort (s .next)) × (s′ ≡ s))
-    → Happens T (state-map (meaning point) s) Close bytes r (state-map (meaning point) s′)
+      → Cases r (λ t. (s .posted ≡ length (s .wires)) × (t ≡ Closed) × (s′ ≡ closed-state s)) (λ f. (s .posted < length (s .wires)) × (f ≡ refused-at BoardShort (s .next)) × (s′ ≡ s))
+      → Happens T (state-map (meaning point) s) Close bytes r (state-map (meaning point) s′)
   close-happens (Ok t) stage o =
       let full = eq-eqb (s .posted) (length (s .wires)) (o .0) in
       let judged : judge-call T (state-map (meaning point) s) Close bytes ≡ None = simp (stage, length-map (meaning point) (s .wires), full) in
@@ -64,23 +64,24 @@ module _ {E P : Type 0} (T : Terms P) (point : E → P) (s s′ : State (Ciphert
       by Close (Err f) judged (o .1, ap (state-map (meaning point)) (o .2))
 
   by-judgement : (j : Option Reason) (m : Message P ℕ) (outputs : Pair E) → m .outputs ≡ pair-meaning point outputs → (r : Result Taken Refusal)
-    → StepHappens j (T .comparators) s outputs r s′ → HappensBy T j (state-map (meaning point) s) (Step m) r (state-map (meaning point) s′)
+      → StepHappens j (T .comparators) s outputs r s′ → HappensBy T j (state-map (meaning point) s) (Step m) r (state-map (meaning point) s′)
   by-judgement None m outputs e (Ok t) h =
       let after : after-step T (state-map (meaning point) s) m (nth (T .comparators) (s .next)) ≡ after-step T (state-map (meaning point) s) m (Some (h .0)) =
-        ap (after-step T (state-map (meaning point) s) m) (h .1) in
-      ((h .0, h .1, h .2),
-       ap (state-map (meaning point)) (h .3)
-       ∙ map-stepped (meaning point) (length (T .comparators)) s (h .0 .first) (h .0 .second) (outputs .first) (outputs .second)
-       ∙ ap (λ (o : Pair P). after-step T (state-map (meaning point) s) (record { outputs = o; proofs = m .proofs }) (Some (h .0))) (sym e)
-       ∙ sym after)
+      ap (after-step T (state-map (meaning point) s) m) (h .1) in (
+        (h .0, h .1, h .2),
+        ap (state-map (meaning point)) (h .3)
+            ∙ map-stepped (meaning point) (length (T .comparators)) s (h .0 .first) (h .0 .second) (outputs .first) (outputs .second)
+            ∙ ap (λ (o : Pair P). after-step T (state-map (meaning point) s) (record { outputs = o; proofs = m .proofs }) (Some (h .0))) (sym e)
+            ∙ sym after,
+      )
   by-judgement None m outputs e (Err f) h = h
   by-judgement (Some why) m outputs e (Ok t) h = h
   by-judgement (Some why) m outputs e (Err f) h = (h .0, ap (state-map (meaning point)) (h .1))
 
   pub step-happens : (m : Message P ℕ) (outputs : Pair E) → m .outputs ≡ pair-meaning point outputs → (r : Result Taken Refusal)
-    → s .stage ≡ Turning → 11 * T .group .width ≤ bytes
-    → StepHappens (judge-step T (state-map (meaning point) s) m (nth (T .comparators) (s .next))) (T .comparators) s outputs r s′
-    → Happens T (state-map (meaning point) s) (Step m) bytes r (state-map (meaning point) s′)
+      → s .stage ≡ Turning → 11 * T .group .width ≤ bytes
+      → StepHappens (judge-step T (state-map (meaning point) s) m (nth (T .comparators) (s .next))) (T .comparators) s outputs r s′
+      → Happens T (state-map (meaning point) s) (Step m) bytes r (state-map (meaning point) s′)
   step-happens m outputs e r stage room h =
       let fits = le-leb (11 * T .group .width) bytes room in
       let judged : judge-call T (state-map (meaning point) s) (Step m) bytes ≡ judge-step T (state-map (meaning point) s) m (nth (T .comparators) (s .next)) = passes fits stage in

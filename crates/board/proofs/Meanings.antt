@@ -4,7 +4,7 @@ use mathlib.Core.List.{List, [], _∷_, map}
 use mathlib.Core.Path.{_≡_, refl, sym, ap, ap₂, _∙_}
 use Prim.Native.Nat.{ℕ, zero, suc, _+_}
 use lib.Dec.{eqb}
-use lib.ListN.{length, getD, set}
+use lib.ListN.{length, getD, set, replicate}
 use Rattle.elgamal.specs.Ciphertexts.{meaning}
 use Rattle.plan.specs.declared.Comparator.{Comparator}
 use Rattle.posting.specs.Comparison.{pair-meaning, comparison-meaning}
@@ -29,6 +29,10 @@ module _ {X Y : Type 0} (f : X → Y) where
   map-getD (x ∷ xs) zero d = refl
   map-getD (x ∷ xs) (suc i) d = map-getD xs i d
 
+  pub map-replicate : (n : ℕ) (x : X) → map f (replicate n x) ≡ replicate n (f x)
+  map-replicate zero x = refl
+  map-replicate (suc n) x = ap (λ (ys : List Y). f x ∷ ys) (map-replicate n x)
+
   with-wires : State Y → List Y → State Y
   with-wires s ws = record { wires = ws; start = s .start; servers = s .servers; stage = s .stage; posted = s .posted; completed = s .completed; server = s .server; next = s .next }
 
@@ -52,14 +56,14 @@ module _ {X Y : Type 0} (f : X → Y) where
   map-stepped count s a b x y =
       map-cond (eqb (s .next + 1) count) _ _
       ∙ ap₂ (cond (eqb (s .next + 1) count))
-        (map-advanced (kept-state (written-state s a b x y)) (s .completed + 1) ∙ ap (λ (t : State Y). advanced (kept-state t) (s .completed + 1)) (map-written s a b x y))
-        (map-written s a b x y)
+      (map-advanced (kept-state (written-state s a b x y)) (s .completed + 1) ∙ ap (λ (t : State Y). advanced (kept-state t) (s .completed + 1)) (map-written s a b x y))
+      (map-written s a b x y)
 
   pub map-expelled : (s : State X) → state-map f (expelled-state s) ≡ expelled-state (state-map f s)
   map-expelled s = map-advanced (restored-state s) (s .completed)
 
 pub comparison-at-meaning : {E P : Type 0} (point : E → P) (key : E) (wires : List (Ciphertext E)) (c : Comparator) (outputs : Pair E)
-  → comparison-meaning point (comparison-at key wires c outputs) ≡ comparison-at (point key) (map (meaning point) wires) c (pair-meaning point outputs)
+    → comparison-meaning point (comparison-at key wires c outputs) ≡ comparison-at (point key) (map (meaning point) wires) c (pair-meaning point outputs)
 comparison-at-meaning point key wires c outputs =
     ap₂ (λ a b. record { key = point key; inputs = record { first = a; second = b }; outputs = pair-meaning point outputs })
-      (sym (map-getD (meaning point) wires (c .first) (outputs .first))) (sym (map-getD (meaning point) wires (c .second) (outputs .second)))
+    (sym (map-getD (meaning point) wires (c .first) (outputs .first))) (sym (map-getD (meaning point) wires (c .second) (outputs .second)))

@@ -23,50 +23,93 @@ pub record State (X : Type 0) : Type 0 where
 -- the state that a board holds
 abbrev pub view : {E : Type 0} → Board E → State (Ciphertext E)
 view b = record {
-  wires = now (b .wires); start = now (b .start); servers = b .servers; stage = b .stage;
-  posted = b .posted; completed = b .completed; server = b .server; next = b .next
+  wires = now (b .wires);
+  start = now (b .start);
+  servers = b .servers;
+  stage = b .stage;
+  posted = b .posted;
+  completed = b .completed;
+  server = b .server;
+  next = b .next;
 }
 
 -- a state of other items
 abbrev pub state-map : {X Y : Type 0} → (X → Y) → State X → State Y
 state-map f s = record {
-  wires = map f (s .wires); start = map f (s .start); servers = s .servers; stage = s .stage;
-  posted = s .posted; completed = s .completed; server = s .server; next = s .next
+  wires = map f (s .wires);
+  start = map f (s .start);
+  servers = s .servers;
+  stage = s .stage;
+  posted = s .posted;
+  completed = s .completed;
+  server = s .server;
+  next = s .next;
 }
 
 module _ {X : Type 0} where
   -- as a board is opened: the same item on each of n wires
   abbrev pub opened : ℕ → ℕ → X → State X
   opened n servers item = record {
-    wires = replicate n item; start = replicate n item; servers = servers; stage = Gathering; posted = 0; completed = 0; server = 0; next = 0
+    wires = replicate n item;
+    start = replicate n item;
+    servers = servers;
+    stage = Gathering;
+    posted = 0;
+    completed = 0;
+    server = 0;
+    next = 0;
   }
 
   -- a quote on the next wire
   abbrev pub posted-state : State X → X → State X
   posted-state s item = record {
-    wires = set (s .wires) (s .posted) item; start = s .start; servers = s .servers; stage = s .stage;
-    posted = s .posted + 1; completed = s .completed; server = s .server; next = s .next
+    wires = set (s .wires) (s .posted) item;
+    start = s .start;
+    servers = s .servers;
+    stage = s .stage;
+    posted = s .posted + 1;
+    completed = s .completed;
+    server = s .server;
+    next = s .next;
   }
 
   -- the wires are the list that the turns start from
   abbrev pub kept-state : State X → State X
   kept-state s = record {
-    wires = s .wires; start = s .wires; servers = s .servers; stage = s .stage;
-    posted = s .posted; completed = s .completed; server = s .server; next = s .next
+    wires = s .wires;
+    start = s .wires;
+    servers = s .servers;
+    stage = s .stage;
+    posted = s .posted;
+    completed = s .completed;
+    server = s .server;
+    next = s .next;
   }
 
   -- the wires are as they were when the turn started
   abbrev pub restored-state : State X → State X
   restored-state s = record {
-    wires = s .start; start = s .start; servers = s .servers; stage = s .stage;
-    posted = s .posted; completed = s .completed; server = s .server; next = s .next
+    wires = s .start;
+    start = s .start;
+    servers = s .servers;
+    stage = s .stage;
+    posted = s .posted;
+    completed = s .completed;
+    server = s .server;
+    next = s .next;
   }
 
   -- server 1's turn begins
   abbrev pub closed-state : State X → State X
   closed-state s = record {
-    wires = s .wires; start = s .wires; servers = s .servers; stage = Turning;
-    posted = s .posted; completed = s .completed; server = 1; next = 0
+    wires = s .wires;
+    start = s .wires;
+    servers = s .servers;
+    stage = Turning;
+    posted = s .posted;
+    completed = s .completed;
+    server = 1;
+    next = 0;
   }
 
   -- the present turn is over, with this many servers completed: the next one begins, or the round is finished
@@ -79,8 +122,14 @@ module _ {X : Type 0} where
   -- two outputs on the wires a and b
   abbrev pub written-state : State X → (a b : ℕ) → X → X → State X
   written-state s a b x y = record {
-    wires = set (set (s .wires) a x) b y; start = s .start; servers = s .servers; stage = s .stage;
-    posted = s .posted; completed = s .completed; server = s .server; next = s .next + 1
+    wires = set (set (s .wires) a x) b y;
+    start = s .start;
+    servers = s .servers;
+    stage = s .stage;
+    posted = s .posted;
+    completed = s .completed;
+    server = s .server;
+    next = s .next + 1;
   }
 
   -- after a step, of a plan of so many comparators: the last one completes the server

@@ -11,5 +11,5 @@ abbrev pub comparison-at : {X : Type 0} → X → List (Ciphertext X) → Compar
 comparison-at key wires c outputs = record {
   key = key;
   inputs = record { first = getD wires (c .first) (outputs .first); second = getD wires (c .second) (outputs .second) };
-  outputs = outputs
+  outputs = outputs;
 }

@@ -11,6 +11,7 @@ use elgamal::Ciphertext;
 pub mod call;
 pub mod calls;
 mod lists;
+pub mod round;
 mod step;
 
 // The wires and the start list are lent at opening, and written by the board's calls alone.

@@ -69,16 +69,16 @@ module _ {P : Type 0} {G : Operations P} (laws : GroupLaws G) (E : Exponents) (S
           product = point-told laws _ _ (product .0);
           split = eqb-true _ _ (split .0);
           first-branch = point-told laws _ _ (one .0);
-          second-branch = point-told laws _ _ (other .0)
-        }
+          second-branch = point-told laws _ _ (other .0);
+        };
       }
 
   pub holds-judged : Holds G E S k p first → judge G E S k p first ≡ None
   holds-judged h =
       equations-left G E S k p first (numbers-said E p (h .answer-below) (branch-said E (p .disjunction .first) (h .first-fits)) (branch-said E (p .disjunction .second) (h .second-fits))) (h .reaches)
       ∙ none-fails G k p (draws G E S k p first)
-        (point-same laws _ _ (h .equations .product)) (eq-eqb _ _ (h .equations .split))
-        (point-same laws _ _ (h .equations .first-branch)) (point-same laws _ _ (h .equations .second-branch))
+      (point-same laws _ _ (h .equations .product)) (eq-eqb _ _ (h .equations .split))
+      (point-same laws _ _ (h .equations .first-branch)) (point-same laws _ _ (h .equations .second-branch))
 
 -- what a call that was judged answers, it answers exactly
 pub answered-ok : {X : Type 0} (o : Option Reason) (place : ℕ) (r : Result X Refusal) → answered o place r → isOk r ≡ true → o ≡ None

@@ -20,13 +20,13 @@ pub record BranchFits {Point : Type 0} (E : Exponents) (b : Branch Point ℕ) : 
 -- the equations, at what was drawn
 pub record Equations {Point : Type 0} (G : Operations Point) (k : Comparison Point) (p : Proofs Point ℕ) (d : Draws) : Type 0 where
   pub product : Accepted G (folded-key G (k .key) (d .equivalence-z))
-    (folded-quotient G (multiplied G (k .inputs .first) (k .inputs .second)) (multiplied G (k .outputs .first) (k .outputs .second)) (d .equivalence-z))
-    (p .equivalence .commitment) (d .equivalence-c) (p .equivalence .answer)
+      (folded-quotient G (multiplied G (k .inputs .first) (k .inputs .second)) (multiplied G (k .outputs .first) (k .outputs .second)) (d .equivalence-z))
+      (p .equivalence .commitment) (d .equivalence-c) (p .equivalence .answer)
   pub split : bitXor (p .disjunction .first .challenge) (p .disjunction .second .challenge) ≡ d .disjunction-c
   pub first-branch : Accepted G (folded-key G (k .key) (d .disjunction-z)) (folded-quotient G (k .inputs .first) (k .outputs .first) (d .disjunction-z))
-    (p .disjunction .first .commitment) (p .disjunction .first .challenge) (p .disjunction .first .answer)
+      (p .disjunction .first .commitment) (p .disjunction .first .challenge) (p .disjunction .first .answer)
   pub second-branch : Accepted G (folded-key G (k .key) (d .disjunction-z)) (folded-quotient G (k .inputs .first) (k .outputs .second) (d .disjunction-z))
-    (p .disjunction .second .commitment) (p .disjunction .second .challenge) (p .disjunction .second .answer)
+      (p .disjunction .second .commitment) (p .disjunction .second .challenge) (p .disjunction .second .answer)
 
 -- every number is fit, the source reaches, and the equations hold
 pub record Holds {Point : Type 0} (G : Operations Point) (E : Exponents) (S : Words) (k : Comparison Point) (p : Proofs Point ℕ) (first : ℕ) : Type 0 where

@@ -20,5 +20,5 @@ comparators-hold = record {
   taken = refl;
   split-refused = refl;
   product-number = refl;
-  split-number = refl
+  split-number = refl;
 }

@@ -41,7 +41,7 @@ commitment = power group1 folded 6
 abbrev pub inputs : Pair (Residue 23 11)
 inputs = record {
   first = record { alpha = element 18 tt; beta = element 9 tt };
-  second = record { alpha = element 1 tt; beta = element 2 tt }
+  second = record { alpha = element 1 tt; beta = element 2 tt };
 }
 
 abbrev pub secrets : Secrets ℕ
@@ -70,8 +70,8 @@ with-second-challenge c p = record {
   equivalence = p .equivalence;
   disjunction = record {
     first = p .disjunction .first;
-    second = record { commitment = p .disjunction .second .commitment; challenge = c; answer = p .disjunction .second .answer }
-  }
+    second = record { commitment = p .disjunction .second .commitment; challenge = c; answer = p .disjunction .second .answer };
+  };
 }
 
 pub record ComparatorExamples : Type 0 where

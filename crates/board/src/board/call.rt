@@ -7,11 +7,16 @@ ghost use Rattle.board.specs.Calls.{terms, event-meaning, Happens};
 ghost use Rattle.board.specs.States.{view, state-map};
 use super::Board;
 use super::step::step;
-use crate::events::{Event, Stage, Taken};
-use clearing::{ByteZero, Clearing};
-use group::{Exponent, Group};
+use crate::events::Event;
+use crate::events::Stage;
+use crate::events::Taken;
+use clearing::ByteZero;
+use clearing::Clearing;
+use group::Exponent;
+use group::Group;
 use plan::Plan;
-use refusal::{Reason, Refusal};
+use refusal::Reason;
+use refusal::Refusal;
 use source::Source;
 
 // Takes an event, or refuses it: then no list and no count is altered. The posting buffer ends as zeros.
@@ -33,7 +38,14 @@ pub fn call<G: Group, P: Plan, S: Source>(
         (_, Event::Step(_)) if short => Err(Reason::UnfitLength.at(board.next)),
         (Stage::Gathering, Event::Post(quote)) => board.post(quote),
         (Stage::Gathering, Event::Close) => board.close(),
-        (Stage::Turning, Event::Step(message)) => step(board, group, plan, source, message, buffer.places),
+        (Stage::Turning, Event::Step(message)) => step(
+            board,
+            group,
+            plan,
+            source,
+            message,
+            buffer.places,
+        ),
         (Stage::Turning, Event::Expel) => Ok(board.expel()),
         _ => Err(Reason::WrongStage.at(board.next)),
     }

@@ -12,11 +12,14 @@ ghost use Rattle.board.specs.declared.events.Stage.the-variants.{Gathering, Tu
 ghost use Rattle.refusal.specs.Table.{refused-at};
 ghost use Rattle.refusal.specs.declared.Reason.the-variants.{BoardFull, BoardShort};
 use super::Board;
-use crate::events::{Event, Stage, Taken};
+use crate::events::Event;
+use crate::events::Stage;
+use crate::events::Taken;
 use elgamal::Ciphertext;
 use plan::Comparator;
 use posting::comparison::Pair;
-use refusal::{Reason, Refusal};
+use refusal::Reason;
+use refusal::Refusal;
 
 impl<'a, E: Copy> Board<'a, E> {
     pub(crate) fn post(&mut self, quote: Ciphertext<E>) -> Result<Taken, Refusal>

@@ -5,7 +5,8 @@ ghost use Prim.Native.Nat.{_≤_, _+_, _<_};
 ghost use Rattle.board.specs.States.{view, kept-state, restored-state, advanced};
 use super::Board;
 use crate::events::Stage;
-use elgamal::{Ciphertext, CiphertextClone};
+use elgamal::Ciphertext;
+use elgamal::CiphertextClone;
 
 // The same item in each place.
 pub(crate) fn fill<T: Copy>(list: &mut [T], item: T)

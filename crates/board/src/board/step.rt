@@ -12,11 +12,15 @@ ghost use Rattle.board.specs.declared.events.Stage.the-variants.{Turning};
 use super::Board;
 use crate::events::Taken;
 use equivalence::check::check;
-use group::{Exponent, Group};
-use plan::{Comparator, Plan};
-use posting::comparison::{Comparison, Pair};
+use group::Exponent;
+use group::Group;
+use plan::Comparator;
+use plan::Plan;
+use posting::comparison::Comparison;
+use posting::comparison::Pair;
 use prover::states::Message;
-use refusal::{Reason, Refusal};
+use refusal::Reason;
+use refusal::Refusal;
 use source::Source;
 
 // The first of the four questions of a server's comparator.

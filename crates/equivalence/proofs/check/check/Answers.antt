@@ -24,8 +24,9 @@ returns g c =
     let fits : buffer-fits (g .G·Group .operations) (length (c .args .buffer .now)) ≡ true = le-leb (11 * g .G·Group .operations .width) (length (c .args .buffer .now)) (omega arith) in
     record {
       verdict = rw fits within;
-      exact =
-        ((λ ok. judged-holds laws E S k p (c .args .first) (answered-ok judged (c .args .place) (c .check-within .result) within ok)),
-         (λ _ holds. ok-answered judged (c .args .place) (c .check-within .result) within (holds-judged laws E S k p (c .args .first) holds)));
-      cleared = search needs
+      exact = (
+        (λ ok. judged-holds laws E S k p (c .args .first) (answered-ok judged (c .args .place) (c .check-within .result) within ok)),
+        (λ _ holds. ok-answered judged (c .args .place) (c .check-within .result) within (holds-judged laws E S k p (c .args .first) holds)),
+      );
+      cleared = search needs;
     }

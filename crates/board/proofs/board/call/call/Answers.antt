@@ -20,7 +20,7 @@ returns-in-Gathering-Post g c =
     record {
       happens = subst done (sym (c .in-Gathering-Post .is-1)) (post-happens T point (view b) (view (c .post .last .self)) bytes (c .in-Gathering-Post .quote) (c .post .result) (c .in-Gathering-Post .is-0) (c .post .ensures .outcome));
       key = c .post .ensures .key;
-      cleared = search needs
+      cleared = search needs;
     }
 
 pub returns-in-Gathering-Close : need.returns-in-Gathering-Close
@@ -33,7 +33,7 @@ returns-in-Gathering-Close g c =
     record {
       happens = subst done (sym (c .in-Gathering-Close .is-1)) (close-happens T point (view b) (view (c .close .last .self)) bytes (c .close .result) (c .in-Gathering-Close .is-0) (c .close .ensures .outcome));
       key = c .close .ensures .key;
-      cleared = search needs
+      cleared = search needs;
     }
 
 pub returns-in-Turning-Step : need.returns-in-Turning-Step
@@ -49,5 +49,5 @@ returns-in-Turning-Step g c =
     record {
       happens = subst done (sym (c .in-rest-Step .is-1)) (step-happens T point (view b) (view (c .step .last .board)) bytes m (message .outputs) refl (c .step .result) (c .in-Turning-Step .is-0) (omega (arith, c .if-short .left)) (c .step .ensures .happens));
       key = c .step .ensures .key;
-      cleared = search needs
+      cleared = search needs;
     }

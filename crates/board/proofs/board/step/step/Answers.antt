@@ -46,7 +46,7 @@ write-requires g c κs =
       second = omega (arith, c .if-on-board .left, wires);
       next = omega (arith, on .2, next, c .count-count .ensures);
       few = omega (arith, plan .few, c .count-count .ensures);
-      stage = ap (λ (x : Board (g .G·Element .Denot)). x .stage) kept ∙ c .pre .stage
+      stage = ap (λ (x : Board (g .G·Element .Denot)). x .stage) kept ∙ c .pre .stage;
     }
 
 pub returns-in-Break-check : need.returns-in-Break-check
@@ -64,11 +64,11 @@ returns-in-Break-check g c =
     let long = length-map (meaning point) (b .wires .now) in
     let kept = c .comparison-on-comparison .ensures .kept in
     let same-comparison : comparison-meaning point (c .comparison-on-comparison .result) ≡ comparison-at (point (b .key)) (map (meaning point) (b .wires .now)) on (pair-meaning point (c .args .message .outputs)) =
-      ap (comparison-meaning point) (c .comparison-on-comparison .ensures .is) ∙ comparison-at-meaning point (b .key) (b .wires .now) on (c .args .message .outputs) in
+    ap (comparison-meaning point) (c .comparison-on-comparison .ensures .is) ∙ comparison-at-meaning point (b .key) (b .wires .now) on (c .args .message .outputs) in
     let same-question : c .question-of-question .result ≡ question T s =
-      c .question-of-question .ensures ∙ ap₂ (λ (n k : ℕ). 4 * (n * (k - 1) + b .next)) (c .count-count .ensures) (ap (λ (x : Board (g .G·Element .Denot)). x .server) kept) in
+    c .question-of-question .ensures ∙ ap₂ (λ (n k : ℕ). 4 * (n * (k - 1) + b .next)) (c .count-count .ensures) (ap (λ (x : Board (g .G·Element .Denot)). x .server) kept) in
     let judged : judge-step T s m (nth cs (b .next)) ≡ judge G E S (comparison-meaning point (c .comparison-on-comparison .result)) (m .proofs) (c .question-of-question .result) =
-      ap (judge-step T s m) (sym (c .in-Some .ensures tt)) ∙ inside T s m on (omega (arith, c .if-on-board .left)) ∙ sym (ap₂ (λ k (q : ℕ). judge G E S k (m .proofs) q) same-comparison same-question) in
+    ap (judge-step T s m) (sym (c .in-Some .ensures tt)) ∙ inside T s m on (omega (arith, c .if-on-board .left)) ∙ sym (ap₂ (λ k (q : ℕ). judge G E S k (m .proofs) q) same-comparison same-question) in
     let fits = le-leb (11 * G .width) (length (c .args .buffer .now)) (c .pre .buffer) in
     let e = err-from-errBy (c .from-residual .result) (c .from-residual .ensures .1) in
     let told = answer-err _ _ _ _ (simp fits at (c .in-Break-check .ensures tt .verdict)) in
@@ -89,15 +89,20 @@ returns g c =
     let long = length-map (meaning point) (b .wires .now) in
     let kept = c .comparison-on-comparison .ensures .kept in
     let same-comparison : comparison-meaning point (c .comparison-on-comparison .result) ≡ comparison-at (point (b .key)) (map (meaning point) (b .wires .now)) on (pair-meaning point (c .args .message .outputs)) =
-      ap (comparison-meaning point) (c .comparison-on-comparison .ensures .is) ∙ comparison-at-meaning point (b .key) (b .wires .now) on (c .args .message .outputs) in
+    ap (comparison-meaning point) (c .comparison-on-comparison .ensures .is) ∙ comparison-at-meaning point (b .key) (b .wires .now) on (c .args .message .outputs) in
     let same-question : c .question-of-question .result ≡ question T s =
-      c .question-of-question .ensures ∙ ap₂ (λ (n k : ℕ). 4 * (n * (k - 1) + b .next)) (c .count-count .ensures) (ap (λ (x : Board (g .G·Element .Denot)). x .server) kept) in
+    c .question-of-question .ensures ∙ ap₂ (λ (n k : ℕ). 4 * (n * (k - 1) + b .next)) (c .count-count .ensures) (ap (λ (x : Board (g .G·Element .Denot)). x .server) kept) in
     let judged : judge-step T s m (nth cs (b .next)) ≡ judge G E S (comparison-meaning point (c .comparison-on-comparison .result)) (m .proofs) (c .question-of-question .result) =
-      ap (judge-step T s m) (sym (c .in-Some .ensures tt)) ∙ inside T s m on (omega (arith, c .if-on-board .left)) ∙ sym (ap₂ (λ k (q : ℕ). judge G E S k (m .proofs) q) same-comparison same-question) in
+    ap (judge-step T s m) (sym (c .in-Some .ensures tt)) ∙ inside T s m on (omega (arith, c .if-on-board .left)) ∙ sym (ap₂ (λ k (q : ℕ). judge G E S k (m .proofs) q) same-comparison same-question) in
     let fits = le-leb (11 * G .width) (length (c .args .buffer .now)) (c .pre .buffer) in
     let none = answer-ok _ _ _ (simp fits at (c .in-Continue-check .ensures tt .verdict)) in
     let Count : ℕ → Type 0 = λ n. view (c .write .last .self) ≡ stepped-state n (view b) (on .first) (on .second) (c .args .message .outputs .first) (c .args .message .outputs .second) in
-    record { key = c .write .ensures .key ∙ ap (λ (x : Board (g .G·Element .Denot)). x .key) kept; happens = rw (judged, none)
-      (on, sym (c .in-Some .ensures tt),
-       c .write .ensures .answer ∙ ap (λ (x : Board (g .G·Element .Denot)). Stepped (x .server) (x .next) on) kept,
-       subst Count (c .count-count .ensures) (c .write .ensures .state ∙ ap (λ (x : Board (g .G·Element .Denot)). stepped-state (c .count-count .result) (view x) (on .first) (on .second) (c .args .message .outputs .first) (c .args .message .outputs .second)) kept)) }
+    record {
+      key = c .write .ensures .key ∙ ap (λ (x : Board (g .G·Element .Denot)). x .key) kept;
+      happens = rw (judged, none) (
+        on,
+        sym (c .in-Some .ensures tt),
+        c .write .ensures .answer ∙ ap (λ (x : Board (g .G·Element .Denot)). Stepped (x .server) (x .next) on) kept,
+        subst Count (c .count-count .ensures) (c .write .ensures .state ∙ ap (λ (x : Board (g .G·Element .Denot)). stepped-state (c .count-count .result) (view x) (on .first) (on .second) (c .args .message .outputs .first) (c .args .message .outputs .second)) kept),
+      );
+    }
