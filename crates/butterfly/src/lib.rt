@@ -278,16 +278,14 @@ fn seat_of(halves: &[Half; 64], half: Half, i: usize) -> usize
     }
 }
 
-// What the entries are on a half.
-fn halve(pairs: usize, entries: &[u8; 64], halves: &[Half; 64], half: Half) -> [u8; 64]
+// Writes what the entries are on a half into a lent table, which spares a copy.
+fn halve(pairs: usize, entries: &[u8; 64], halves: &[Half; 64], half: Half, table: &mut [u8; 64])
     requires { ⌜ pairs ≤ 32 ⌝ }
-    ensures { λ r. ⌜ ((i : ℕ) → i < pairs → at r i ≡ half-of (at (now (entries .entry))) (sides (now (halves .entry))) (side half) i) ⌝ }
+    ensures { λ _. ⌜ ((i : ℕ) → i < pairs → at (now (table .exit)) i ≡ half-of (at (now (entries .entry))) (sides (now (halves .entry))) (side half) i) ⌝ }
 {
-    let mut table = [0; 64];
     for i in 0..pairs {
         table[i] = entries[seat_of(halves, half, i)] / 2;
     }
-    table
 }
 
 // Sets a layer of pairs, from pair `first` on, from the place `start` on.
@@ -328,11 +326,13 @@ fn route_over(
     let ends = halves_by_end(pairs, entries, inverse);
     let starts = halves_by_start(pairs, inverse, &ends);
     set_layer(settings, start, &starts, 0, pairs);
-    let even = halve(pairs, entries, &ends, Half::Even);
-    let even_back = halve(pairs, inverse, &starts, Half::Even);
-    route_over(levels - 1, &even, &even_back, settings, start + pairs);
-    let odd = halve(pairs, entries, &ends, Half::Odd);
-    let odd_back = halve(pairs, inverse, &starts, Half::Odd);
-    route_over(levels - 1, &odd, &odd_back, settings, start + pairs + inner);
+    let mut there = [0; 64];
+    let mut back = [0; 64];
+    halve(pairs, entries, &ends, Half::Even, &mut there);
+    halve(pairs, inverse, &starts, Half::Even, &mut back);
+    route_over(levels - 1, &there, &back, settings, start + pairs);
+    halve(pairs, entries, &ends, Half::Odd, &mut there);
+    halve(pairs, inverse, &starts, Half::Odd, &mut back);
+    route_over(levels - 1, &there, &back, settings, start + pairs + inner);
     set_layer(settings, start + pairs + 2 * inner, &ends, 1, pairs - 1);
 }

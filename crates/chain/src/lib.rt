@@ -24,7 +24,7 @@ pub struct Chain {
 impl Chain {
     // The chain over 2 to 64 wires.
     pub fn new(wires: usize) -> Result<Chain, Refusal>
-        ensures { λ r. ⌜ Cases r (λ c. (c .width ≡ wires) × (2 * length (chain wires) + wires ≡ wires * wires)) (Unfit wires) ⌝ }
+        ensures { λ r. ⌜ Cases r (λ c. (c .width ≡ wires) × (length (chain wires) ≡ (wires * (wires - 1)) / 2)) (Unfit wires) ⌝ }
     {
         if wires < 2 || wires > 64 {
             return Err(Reason::UnfitWires.at(0));
