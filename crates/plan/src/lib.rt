@@ -63,6 +63,7 @@ pub trait Plan {
         ensures { λ r. ⌜ Routed (width (now (self .entry))) (listing (now (self .entry))) (now (permutation .entry)) (now (settings .entry)) (now (settings .exit)) r ⌝ };
 }
 
+// Lets one comparator work on the items.
 fn apply<T>(comparator: Comparator, setting: Setting, items: &mut [T])
     requires first { ⌜ comparator .first < length (now items) ⌝ }
     requires second { ⌜ comparator .second < length (now items) ⌝ }
