@@ -14,7 +14,7 @@ use Rattle.plan.specs.Plans.{at}
 use Rattle.butterfly.specs.declared.Half.{Half}
 use Rattle.butterfly.specs.declared.Half.the-variants.{Even, Odd}
 use Rattle.butterfly.specs.Halves.{side, other, sides}
-use Rattle.butterfly.specs.Colours.{Matching, Coloured, first-half, paint, painted, Contracted}
+use Rattle.butterfly.specs.Colours.{Matching, Coloured, first-half, assign, assigned, Contracted}
 
 -- u makes partners as t does, but joins the partners of 2 * j and of 2 * j + 1
 record Joined (j : ℕ) (t u : ℕ → ℕ) : Type 0 where
@@ -179,53 +179,53 @@ added-lists t c i v w h s l n =
       right = grind (arith, getD-set-same, getD-set-other, length-set);
     }
 
--- one pair painted
-added-paint : (t : List ℕ) (j : ℕ) (c : List Half) → 2 * suc j ≤ length c → Added j (at t) (sides (paint t j c)) (sides c)
-added-paint t j c h =
+-- one pair assigned
+added-assign : (t : List ℕ) (j : ℕ) (c : List Half) → 2 * suc j ≤ length c → Added j (at t) (sides (assign t j c)) (sides c)
+added-assign t j c h =
     added-lists (at t) c j (first-half t j c) (other (first-half t j c)) h (other-side (first-half t j c))
     (λ l. let o = other-side (getD c (at t (2 * j)) Even) in ap (λ v. side v + sides c (at t (2 * j))) (cond-true _ _ _ (lt-ltb _ _ l)) ∙ omega arith)
     (λ n. ap side (cond-false _ _ _ (le-ltb (at t (2 * j)) (2 * j) (omega arith))))
 
-length-paint : (t : List ℕ) (j : ℕ) (c : List Half) → length (paint t j c) ≡ length c
-length-paint t j c = simp length-set
+length-assign : (t : List ℕ) (j : ℕ) (c : List Half) → length (assign t j c) ≡ length c
+length-assign t j c = simp length-set
 
-paint-like : (t u : List ℕ) (j : ℕ) (c : List Half) → at u (2 * j) ≡ at t (2 * j) → paint u j c ≡ paint t j c
-paint-like t u j c e =
+assign-like : (t u : List ℕ) (j : ℕ) (c : List Half) → at u (2 * j) ≡ at t (2 * j) → assign u j c ≡ assign t j c
+assign-like t u j c e =
     ap (λ a. let f = cond (ltb a (2 * j)) (other (getD c a Even)) Even in set (set c (2 * j) f) (2 * j + 1) (other f)) e
 
-painted-like : (r : ℕ) (t u : List ℕ) (j : ℕ) (c : List Half) → ((i : ℕ) → j ≤ i → at u (2 * i) ≡ at t (2 * i)) → painted u j r c ≡ painted t j r c
-unfolding painted
-painted-like zero t u j c e = refl
-painted-like (suc r) t u j c e =
-    ap (painted u (j + 1) r) (paint-like t u j c (e j (omega arith))) ∙ painted-like r t u (j + 1) (paint t j c) (λ i h. e i (omega arith))
+assigned-like : (r : ℕ) (t u : List ℕ) (j : ℕ) (c : List Half) → ((i : ℕ) → j ≤ i → at u (2 * i) ≡ at t (2 * i)) → assigned u j r c ≡ assigned t j r c
+unfolding assigned
+assigned-like zero t u j c e = refl
+assigned-like (suc r) t u j c e =
+    ap (assigned u (j + 1) r) (assign-like t u j c (e j (omega arith))) ∙ assigned-like r t u (j + 1) (assign t j c) (λ i h. e i (omega arith))
 
-painted-suc : (t : List ℕ) (j r : ℕ) (c : List Half) → painted t j (suc r) c ≡ painted t (j + 1) r (paint t j c)
-unfolding painted
-painted-suc t j r c = refl
+assigned-suc : (t : List ℕ) (j r : ℕ) (c : List Half) → assigned t j (suc r) c ≡ assigned t (j + 1) r (assign t j c)
+unfolding assigned
+assigned-suc t j r c = refl
 
-painted-zero : (t : List ℕ) (j : ℕ) (c : List Half) → painted t j 0 c ≡ c
-unfolding painted
-painted-zero t j c = refl
+assigned-zero : (t : List ℕ) (j : ℕ) (c : List Half) → assigned t j 0 c ≡ c
+unfolding assigned
+assigned-zero t j c = refl
 
-pub painted-step : (t : List ℕ) (j m : ℕ) (c : List Half) → j < m → painted t j (m - j) c ≡ painted t (j + 1) (m - (j + 1)) (paint t j c)
-painted-step t j m c h = let e : m - j ≡ suc (m - (j + 1)) = omega arith in ap (λ r. painted t j r c) e ∙ painted-suc t j (m - (j + 1)) c
+pub assigned-step : (t : List ℕ) (j m : ℕ) (c : List Half) → j < m → assigned t j (m - j) c ≡ assigned t (j + 1) (m - (j + 1)) (assign t j c)
+assigned-step t j m c h = let e : m - j ≡ suc (m - (j + 1)) = omega arith in ap (λ r. assigned t j r c) e ∙ assigned-suc t j (m - (j + 1)) c
 
-pub painted-all : (t : List ℕ) (j m : ℕ) (c : List Half) → m ≤ j → painted t j (m - j) c ≡ c
-painted-all t j m c h = let e : m - j ≡ 0 = omega arith in ap (λ r. painted t j r c) e ∙ painted-zero t j c
+pub assigned-all : (t : List ℕ) (j m : ℕ) (c : List Half) → m ≤ j → assigned t j (m - j) c ≡ c
+assigned-all t j m c h = let e : m - j ≡ 0 = omega arith in ap (λ r. assigned t j r c) e ∙ assigned-zero t j c
 
 pub contracted-none : (m : ℕ) (t : List ℕ) → Contracted m m t (at t)
-contracted-none m t c l k = subst (λ (z : List Half). Coloured m (at t) (sides z)) (sym (painted-all t m m c (omega arith))) k
+contracted-none m t c l k = subst (λ (z : List Half). Coloured m (at t) (sides z)) (sym (assigned-all t m m c (omega arith))) k
 
 -- one pair taken out, whichever way
 contracted-by : (j m : ℕ) (t u : List ℕ) (o : ℕ → ℕ) → j < m → Matching (suc j) (at t) → Joined j (at t) (at u) → ((i : ℕ) → j ≤ i → at u (2 * i) ≡ at t (2 * i)) →
     Contracted (suc j) m t o → Contracted j m u o
 contracted-by j m t u o h q w e g c l k =
     let s : j + 1 ≡ suc j = omega arith in
-    let p = painted-step u j m c h ∙ painted-like (m - (j + 1)) t u (j + 1) (paint u j c) (λ i b. e i (omega arith)) ∙ ap (painted t (j + 1) (m - (j + 1))) (paint-like t u j c (e j (omega arith)))
-    ∙ ap (λ i. painted t i (m - i) (paint t j c)) s in
-    let n = length-paint t j c in
+    let p = assigned-step u j m c h ∙ assigned-like (m - (j + 1)) t u (j + 1) (assign u j c) (λ i b. e i (omega arith)) ∙ ap (assigned t (j + 1) (m - (j + 1))) (assign-like t u j c (e j (omega arith)))
+    ∙ ap (λ i. assigned t i (m - i) (assign t j c)) s in
+    let n = length-assign t j c in
     subst (λ (z : List Half). Coloured m o (sides z)) (sym p)
-    (g (paint t j c) (omega arith) (coloured-added j (at t) (at u) (sides (paint t j c)) (sides c) q w k (added-paint t j c (omega arith))))
+    (g (assign t j c) (omega arith) (coloured-added j (at t) (at u) (sides (assign t j c)) (sides c) q w k (added-assign t j c (omega arith))))
 
 -- the turns of the loop
 abbrev Turned : ℕ → ℕ → List ℕ → (ℕ → ℕ) → Type 0
@@ -263,7 +263,7 @@ turn-then n j m a b t o e l p r s g = turn-joined j m a b t o l p r s (subst (λ
 pub turn-else : (n j m : ℕ) (t : List ℕ) (o : ℕ → ℕ) → n ≡ suc j → 2 * j ≤ at t (2 * j) → Turned n m t o → Turned j m t o
 turn-else n j m t o e s g = turn-alone j m t o s (subst (λ (z : ℕ). Turned z m t o) e g)
 
-pub contracted-all : (m : ℕ) (t : List ℕ) (c d : List Half) (o : ℕ → ℕ) → Contracted 0 m t o → 2 * m ≤ length c → sides c 0 ≡ 0 → d ≡ painted t 0 m c → Coloured m o (sides d)
+pub contracted-all : (m : ℕ) (t : List ℕ) (c d : List Half) (o : ℕ → ℕ) → Contracted 0 m t o → 2 * m ≤ length c → sides c 0 ≡ 0 → d ≡ assigned t 0 m c → Coloured m o (sides d)
 contracted-all m t c d o g l z e =
     let n : m - 0 ≡ m = omega arith in
-    subst (λ (y : List Half). Coloured m o (sides y)) (ap (λ r. painted t 0 r c) n ∙ sym e) (g c l (coloured-none (at t) (sides c) z))
+    subst (λ (y : List Half). Coloured m o (sides y)) (ap (λ r. assigned t 0 r c) n ∙ sym e) (g c l (coloured-none (at t) (sides c) z))

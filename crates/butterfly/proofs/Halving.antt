@@ -8,7 +8,7 @@ use lib.Dec.{eqb}
 use Rattle.std.proofs.shelf.Tests.{cases-eq, cases-lt}
 use Rattle.std.proofs.shelf.Ways.{tells}
 use Rattle.plan.specs.Plans.{Inverse}
-use Rattle.butterfly.specs.Halves.{Halved, seat, half-of}
+use Rattle.butterfly.specs.Halves.{Halved, member, half-of}
 use Rattle.butterfly.specs.Colours.{Matching, Coloured, neighbour, partner}
 
 neighbour-below : (m y : ℕ) → y < 2 * m → neighbour y < 2 * m
@@ -53,32 +53,32 @@ flipped m p q c d v =
     }
 
 -- the wire of a pair that is in half s, and the pair of such a wire
-seat-side : (c : ℕ → ℕ) (s i : ℕ) → s ≤ 1 → c (2 * i) + c (2 * i + 1) ≡ 1 → c (seat c s i) ≡ s
-seat-side c s i l e = let z = cases-eq (c (2 * i)) s in grind (arith, tells)
+member-side : (c : ℕ → ℕ) (s i : ℕ) → s ≤ 1 → c (2 * i) + c (2 * i + 1) ≡ 1 → c (member c s i) ≡ s
+member-side c s i l e = let z = cases-eq (c (2 * i)) s in grind (arith, tells)
 
-seat-pair : (c : ℕ → ℕ) (s i : ℕ) → seat c s i / 2 ≡ i
-seat-pair c s i = let z = cases-eq (c (2 * i)) s in grind (arith, tells)
+member-pair : (c : ℕ → ℕ) (s i : ℕ) → member c s i / 2 ≡ i
+member-pair c s i = let z = cases-eq (c (2 * i)) s in grind (arith, tells)
 
-seat-below : (c : ℕ → ℕ) (s i m : ℕ) → i < m → seat c s i < 2 * m
-seat-below c s i m h = let z = cases-eq (c (2 * i)) s in grind (arith, tells)
+member-below : (c : ℕ → ℕ) (s i m : ℕ) → i < m → member c s i < 2 * m
+member-below c s i m h = let z = cases-eq (c (2 * i)) s in grind (arith, tells)
 
-pub seat-of : (c : ℕ → ℕ) (s x : ℕ) → c (2 * (x / 2)) + c (2 * (x / 2) + 1) ≡ 1 → c x ≡ s → seat c s (x / 2) ≡ x
-seat-of c s x e z = let w = cases-eq x (2 * (x / 2)) in let u = cases-eq (c (2 * (x / 2))) s in grind (arith, tells)
+pub member-of : (c : ℕ → ℕ) (s x : ℕ) → c (2 * (x / 2)) + c (2 * (x / 2) + 1) ≡ 1 → c x ≡ s → member c s (x / 2) ≡ x
+member-of c s x e z = let w = cases-eq x (2 * (x / 2)) in let u = cases-eq (c (2 * (x / 2))) s in grind (arith, tells)
 
 pub half-to : (m : ℕ) (p q c d : ℕ → ℕ) → Halved m p q c d → (s i : ℕ) → i < m → half-of p c s i < m
-half-to m p q c d v s i h = let w = v .inverse .to (seat c s i) (seat-below c s i m h) in omega arith
+half-to m p q c d v s i h = let w = v .inverse .to (member c s i) (member-below c s i m h) in omega arith
 
 -- where the item of an end starts
-from-half : (m : ℕ) (p q c d : ℕ → ℕ) → Halved m p q c d → (s x : ℕ) → x < 2 * m → c x ≡ s → p x ≡ seat d s (p x / 2)
+from-half : (m : ℕ) (p q c d : ℕ → ℕ) → Halved m p q c d → (s x : ℕ) → x < 2 * m → c x ≡ s → p x ≡ member d s (p x / 2)
 from-half m p q c d v s x h z =
     let w = v .inverse .to x h in
-    sym (seat-of d s (p x) (v .starts (p x / 2) (omega arith)) (sym (v .agree x h) ∙ z))
+    sym (member-of d s (p x) (v .starts (p x / 2) (omega arith)) (sym (v .agree x h) ∙ z))
 
 half-back : (m : ℕ) (p q c d : ℕ → ℕ) → Halved m p q c d → (s : ℕ) → s ≤ 1 → (i : ℕ) → i < m → half-of q d s (half-of p c s i) ≡ i
 half-back m p q c d v s l i h =
-    let b = seat-below c s i m h in
-    let f = from-half m p q c d v s (seat c s i) b (seat-side c s i l (v .ends i h)) in
-    ap (λ y. q y / 2) (sym f) ∙ ap (λ y. y / 2) (v .inverse .back (seat c s i) b) ∙ seat-pair c s i
+    let b = member-below c s i m h in
+    let f = from-half m p q c d v s (member c s i) b (member-side c s i l (v .ends i h)) in
+    ap (λ y. q y / 2) (sym f) ∙ ap (λ y. y / 2) (v .inverse .back (member c s i) b) ∙ member-pair c s i
 
 pub half-inverse : (m : ℕ) (p q c d : ℕ → ℕ) → Halved m p q c d → (s : ℕ) → s ≤ 1 → Inverse m (half-of p c s) (half-of q d s)
 half-inverse m p q c d v s l =
@@ -90,7 +90,7 @@ half-inverse m p q c d v s l =
     }
 
 -- p by its halves
-pub by-half : (m : ℕ) (p q c d : ℕ → ℕ) → Halved m p q c d → (s x : ℕ) → x < 2 * m → c x ≡ s → p x ≡ seat d s (half-of p c s (x / 2))
+pub by-half : (m : ℕ) (p q c d : ℕ → ℕ) → Halved m p q c d → (s x : ℕ) → x < 2 * m → c x ≡ s → p x ≡ member d s (half-of p c s (x / 2))
 by-half m p q c d v s x h z =
-    let a = seat-of c s x (v .ends (x / 2) (omega arith)) z in
-    from-half m p q c d v s x h z ∙ ap (λ y. seat d s (p y / 2)) (sym a)
+    let a = member-of c s x (v .ends (x / 2) (omega arith)) z in
+    from-half m p q c d v s x h z ∙ ap (λ y. member d s (p y / 2)) (sym a)

@@ -19,10 +19,10 @@ use Rattle.plan.specs.declared.Setting.the-variants.{Straight, Swapped}
 use Rattle.plan.specs.declared.Comparator.{Comparator}
 use Rattle.plan.specs.Plans.{on, crossed, came-from, source, Within, Inverse}
 use Rattle.plan.proofs.Running.{source-append, within-append}
-use Rattle.butterfly.specs.Halves.{pair, in-half, doubled, network, setting-for, layer, Halved, seat, half-of}
+use Rattle.butterfly.specs.Halves.{pair, in-half, doubled, network, setting-for, layer, Halved, member, half-of}
 use Rattle.butterfly.specs.Colours.{partner}
 use Rattle.butterfly.proofs.Colouring.{coloured}
-use Rattle.butterfly.proofs.Halving.{partner-is, halved, half-to, half-inverse, by-half, seat-of}
+use Rattle.butterfly.proofs.Halving.{partner-is, halved, half-to, half-inverse, by-half, member-of}
 
 -- a half's comparators act on its own wires as they do in the half, and leave the others
 crossed-in : (s : ℕ) (c : Comparator) (x : ℕ) → crossed (in-half s c) (2 * x + s) ≡ 2 * crossed c x + s
@@ -94,8 +94,8 @@ bit : (c : ℕ → ℕ) (x : ℕ) → c (2 * (x / 2)) + c (2 * (x / 2) + 1) ≡ 
 bit c x e = let w = cases-eq x (2 * (x / 2)) in grind arith
 
 -- what a layer does on the wire of half s in pair i
-seat-layer : (d : ℕ → ℕ) (s i : ℕ) → s ≤ 1 → d (2 * i) + d (2 * i + 1) ≡ 1 → 2 * ((2 * i + s) / 2) + d (2 * i + s) ≡ seat d s i
-seat-layer d s i l e = let w = cases-eq s 0 in let z = cases-eq (d (2 * i)) s in grind (arith, tells)
+member-layer : (d : ℕ → ℕ) (s i : ℕ) → s ≤ 1 → d (2 * i) + d (2 * i + 1) ≡ 1 → 2 * ((2 * i + s) / 2) + d (2 * i + s) ≡ member d s i
+member-layer d s i l e = let w = cases-eq s 0 in let z = cases-eq (d (2 * i)) s in grind (arith, tells)
 
 -- the settings of a butterfly
 abbrev pub joined-settings : (ℕ → ℕ) → (ℕ → ℕ) → List Setting → List Setting → ℕ → List Setting
@@ -126,7 +126,7 @@ combined cs m p q c d es os v z le lo he ho x h =
     ∙ ap (source (map (in-half 1) cs) os) (last-layer c m x z (v .ends) h))
     ∙ inner cs es os (c x) (x / 2) e b f)
     ∙ layer-at d 0 m (2 * e + c x) (λ i k. v .starts i (omega arith)) (omega arith) (omega arith)
-    ∙ seat-layer d (c x) e b (v .starts e w) ∙ sym (by-half m p q c d v (c x) x h refl)
+    ∙ member-layer d (c x) e b (v .starts e w) ∙ sym (by-half m p q c d v (c x) x h refl)
 
 pub length-joined : (cs : List Comparator) (c d : ℕ → ℕ) (es os : List Setting) (m : ℕ) → length es ≡ length cs → length os ≡ length cs →
     length (joined-settings c d es os m) ≡ length (doubled cs m)

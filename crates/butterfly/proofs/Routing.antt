@@ -16,19 +16,19 @@ use Rattle.plan.proofs.Running.{brings-from}
 use Rattle.butterfly.specs.declared.Half.{Half}
 use Rattle.butterfly.specs.Halves.{other, sides, network, doubled, layer, Halved, half-of, Sends, Routes-at}
 use Rattle.butterfly.specs.Listing.{butterfly}
-use Rattle.butterfly.specs.Colours.{Coloured, Contracted, partner, first-half, paint, painted}
-use Rattle.butterfly.proofs.Colouring.{painted-step, contracted-all}
+use Rattle.butterfly.specs.Colours.{Coloured, Contracted, partner, first-half, assign, assigned}
+use Rattle.butterfly.proofs.Colouring.{assigned-step, contracted-all}
 use Rattle.butterfly.proofs.Halving.{halved, half-inverse}
 use Rattle.butterfly.proofs.Network.{joined-settings, combined}
 use Rattle.butterfly.proofs.Placing.{butterfly-is, butterfly-lawful}
 use Rattle.butterfly.proofs.Writing.{written-all}
 use Rattle.butterfly.proofs.Finding.{network-none, network-step}
 
-pub paint-more : (t : List ℕ) (j m : ℕ) (c r : List Half) (h o : Half) → j < m → h ≡ first-half t j c → o ≡ other h →
-    painted t j (m - j) c ≡ r → painted t (j + 1) (m - (j + 1)) (set (set c (2 * j) h) (2 * j + 1) o) ≡ r
-paint-more t j m c r h o l e f i =
-    ap (λ z. painted t (j + 1) (m - (j + 1)) (set (set c (2 * j) h) (2 * j + 1) z)) f
-    ∙ ap (λ z. painted t (j + 1) (m - (j + 1)) (set (set c (2 * j) z) (2 * j + 1) (other z))) e ∙ sym (painted-step t j m c l) ∙ i
+pub assign-more : (t : List ℕ) (j m : ℕ) (c r : List Half) (h o : Half) → j < m → h ≡ first-half t j c → o ≡ other h →
+    assigned t j (m - j) c ≡ r → assigned t (j + 1) (m - (j + 1)) (set (set c (2 * j) h) (2 * j + 1) o) ≡ r
+assign-more t j m c r h o l e f i =
+    ap (λ z. assigned t (j + 1) (m - (j + 1)) (set (set c (2 * j) h) (2 * j + 1) z)) f
+    ∙ ap (λ z. assigned t (j + 1) (m - (j + 1)) (set (set c (2 * j) z) (2 * j + 1) (other z))) e ∙ sym (assigned-step t j m c l) ∙ i
 
 pub coloured-like : (m : ℕ) (t u c : ℕ → ℕ) → ((x : ℕ) → x < 2 * m → t x ≡ u x) → Coloured m t c → Coloured m u c
 coloured-like m t u c e k =

@@ -37,15 +37,15 @@ abbrev pub first-half : List ℕ → ℕ → List Half → Half
 first-half t j c = cond (ltb (at t (2 * j)) (2 * j)) (other (getD c (at t (2 * j)) Even)) Even
 
 -- the halves with those of pair j
-abbrev pub paint : List ℕ → ℕ → List Half → List Half
-paint t j c = set (set c (2 * j) (first-half t j c)) (2 * j + 1) (other (first-half t j c))
+abbrev pub assign : List ℕ → ℕ → List Half → List Half
+assign t j c = set (set c (2 * j) (first-half t j c)) (2 * j + 1) (other (first-half t j c))
 
 -- the halves with those of the r pairs from j on
-unfoldable pub painted : List ℕ → ℕ → ℕ → List Half → List Half
-painted t j zero c = c
-painted t j (suc r) c = painted t (j + 1) r (paint t j c)
+unfoldable pub assigned : List ℕ → ℕ → ℕ → List Half → List Half
+assigned t j zero c = c
+assigned t j (suc r) c = assigned t (j + 1) r (assign t j c)
 
--- halves that do for t below 2 * j, with the other pairs painted, do for o
+-- halves that do for t below 2 * j, with the other pairs assigned, do for o
 abbrev pub Contracted : ℕ → ℕ → List ℕ → (ℕ → ℕ) → Type 0
 Contracted j m t o =
-    (c : List Half) → 2 * m ≤ length c → Coloured j (at t) (sides c) → Coloured m o (sides (painted t j (m - j) c))
+    (c : List Half) → 2 * m ≤ length c → Coloured j (at t) (sides c) → Coloured m o (sides (assigned t j (m - j) c))

@@ -59,12 +59,12 @@ pub record Halved (m : ℕ) (p q c d : ℕ → ℕ) : Type 0 where
   pub starts : (i : ℕ) → i < m → d (2 * i) + d (2 * i + 1) ≡ 1
 
 -- the wire of pair i that is in half s
-abbrev pub seat : (ℕ → ℕ) → ℕ → ℕ → ℕ
-seat c s i = cond (eqb (c (2 * i)) s) (2 * i) (2 * i + 1)
+abbrev pub member : (ℕ → ℕ) → ℕ → ℕ → ℕ
+member c s i = cond (eqb (c (2 * i)) s) (2 * i) (2 * i + 1)
 
 -- what p is on half s
 abbrev pub half-of : (ℕ → ℕ) → (ℕ → ℕ) → ℕ → ℕ → ℕ
-half-of p c s i = p (seat c s i) / 2
+half-of p c s i = p (member c s i) / 2
 
 -- under these settings the butterfly over 2 ^ k wires sends to wire x the item of wire p x
 abbrev pub Sends : ℕ → List Setting → (ℕ → ℕ) → Type 0

@@ -5,10 +5,10 @@ ghost use lib.ListN.{length, replicate};
 ghost use Rattle.std.specs.Options.{Cases as BySome, mapped};
 ghost use Rattle.std.specs.Results.{Cases};
 ghost use Rattle.plan.specs.Plans.{nth, at, source, Inverse, Within, Routed};
-ghost use Rattle.butterfly.specs.Halves.{side, other, sides, pair, in-half, network, setting-for, layer, seat, half-of, Routes-at, written};
+ghost use Rattle.butterfly.specs.Halves.{side, other, sides, pair, in-half, network, setting-for, layer, member, half-of, Routes-at, written};
 ghost use Rattle.butterfly.specs.Listing.{butterfly, Unfit};
 ghost use Rattle.butterfly.specs.declared.Half.the-variants.{Even};
-ghost use Rattle.butterfly.specs.Colours.{Matching, Coloured, Contracted, partner, first-half, painted};
+ghost use Rattle.butterfly.specs.Colours.{Matching, Coloured, Contracted, partner, first-half, assigned};
 use plan::Comparator;
 use plan::Plan;
 use plan::Setting;
@@ -230,9 +230,9 @@ fn first_half(table: &[u8; 64], j: usize, halves: &[Half; 64]) -> Half
 }
 
 // Gives each pair its halves, first pair first.
-fn paint(table: &[u8; 64], pairs: usize) -> [Half; 64]
+fn assign(table: &[u8; 64], pairs: usize) -> [Half; 64]
     requires { ⌜ pairs ≤ 32 ⌝ }
-    ensures { λ r. ⌜ r ≡ painted (now (table .entry)) 0 pairs (replicate 64 Even) ⌝ }
+    ensures { λ r. ⌜ r ≡ assigned (now (table .entry)) 0 pairs (replicate 64 Even) ⌝ }
 {
     let mut halves = [Half::Even; 64];
     for j in 0..pairs {
@@ -251,7 +251,7 @@ fn halves_by_end(pairs: usize, entries: &[u8; 64], inverse: &[u8; 64]) -> [Half;
 {
     let mut table = partners(pairs, entries, inverse);
     contract(&mut table, pairs);
-    paint(&table, pairs)
+    assign(&table, pairs)
 }
 
 // The half of the item that starts on each wire.
@@ -268,9 +268,9 @@ fn halves_by_start(pairs: usize, inverse: &[u8; 64], ends: &[Half; 64]) -> [Half
 }
 
 // The wire of a pair that is in a half.
-fn seat_of(halves: &[Half; 64], half: Half, i: usize) -> usize
+fn member_of(halves: &[Half; 64], half: Half, i: usize) -> usize
     requires { ⌜ i < 32 ⌝ }
-    ensures { λ r. ⌜ r ≡ seat (sides (now (halves .entry))) (side half) i ⌝ }
+    ensures { λ r. ⌜ r ≡ member (sides (now (halves .entry))) (side half) i ⌝ }
 {
     match (halves[2 * i], half) {
         (Half::Even, Half::Even) | (Half::Odd, Half::Odd) => 2 * i,
@@ -278,16 +278,14 @@ fn seat_of(halves: &[Half; 64], half: Half, i: usize) -> usize
     }
 }
 
-// What the entries are on a half.
-fn halve(pairs: usize, entries: &[u8; 64], halves: &[Half; 64], half: Half) -> [u8; 64]
+// Writes what the entries are on a half into a lent table, which spares a copy.
+fn halve(pairs: usize, entries: &[u8; 64], halves: &[Half; 64], half: Half, table: &mut [u8; 64])
     requires { ⌜ pairs ≤ 32 ⌝ }
-    ensures { λ r. ⌜ ((i : ℕ) → i < pairs → at r i ≡ half-of (at (now (entries .entry))) (sides (now (halves .entry))) (side half) i) ⌝ }
+    ensures { λ _. ⌜ ((i : ℕ) → i < pairs → at (now (table .exit)) i ≡ half-of (at (now (entries .entry))) (sides (now (halves .entry))) (side half) i) ⌝ }
 {
-    let mut table = [0; 64];
     for i in 0..pairs {
-        table[i] = entries[seat_of(halves, half, i)] / 2;
+        table[i] = entries[member_of(halves, half, i)] / 2;
     }
-    table
 }
 
 // Sets a layer of pairs, from pair `first` on, from the place `start` on.
@@ -328,11 +326,13 @@ fn route_over(
     let ends = halves_by_end(pairs, entries, inverse);
     let starts = halves_by_start(pairs, inverse, &ends);
     set_layer(settings, start, &starts, 0, pairs);
-    let even = halve(pairs, entries, &ends, Half::Even);
-    let even_back = halve(pairs, inverse, &starts, Half::Even);
-    route_over(levels - 1, &even, &even_back, settings, start + pairs);
-    let odd = halve(pairs, entries, &ends, Half::Odd);
-    let odd_back = halve(pairs, inverse, &starts, Half::Odd);
-    route_over(levels - 1, &odd, &odd_back, settings, start + pairs + inner);
+    let mut there = [0; 64];
+    let mut back = [0; 64];
+    halve(pairs, entries, &ends, Half::Even, &mut there);
+    halve(pairs, inverse, &starts, Half::Even, &mut back);
+    route_over(levels - 1, &there, &back, settings, start + pairs);
+    halve(pairs, entries, &ends, Half::Odd, &mut there);
+    halve(pairs, inverse, &starts, Half::Odd, &mut back);
+    route_over(levels - 1, &there, &back, settings, start + pairs + inner);
     set_layer(settings, start + pairs + 2 * inner, &ends, 1, pairs - 1);
 }

@@ -15,7 +15,7 @@ use Rattle.plan.specs.Plans.{on, at, nth, source, Permutation, Tabled, Brings}
 use Rattle.plan.proofs.Running.{brings-from}
 use Rattle.plan.proofs.Places.{nth-left, nth-right, nth-map, nth-counting}
 use Rattle.chain.specs.Listing.{chain-from, chain, Fits}
-use Rattle.chain.specs.Stages.{hit, Permutes, Brings-from}
+use Rattle.chain.specs.Stages.{row-setting, Permutes, Brings-from}
 use Rattle.chain.proofs.Rows.{settled, permutes-rest, chain-more, chain-lawful}
 
 chain-row : (j m : ℕ) → chain-from j (suc m) ≡ map (on j) (counting (j + 1) m) ++ chain-from (j + 1) m
@@ -76,17 +76,17 @@ pub goes-none : (n : ℕ) (p : ℕ → ℕ) → Goes 0 n p [] p
 goes-none n p ss k x h = let e : n - 0 ≡ n = omega arith in sym (ap (λ m. source (chain-from 0 m) ss x) e) ∙ k x (omega arith) h
 
 pub goes-more : (j n : ℕ) (p q o : ℕ → ℕ) (out ext : List Setting) → j < n → Permutes j n p → ((x : ℕ) → x < n → q x ≡ settled j p x) →
-    ext ≡ out ++ map (hit (p j)) (counting (j + 1) (n - 1 - j)) → Goes j n p out o → Goes (j + 1) n q ext o
+    ext ≡ out ++ map (row-setting (p j)) (counting (j + 1) (n - 1 - j)) → Goes j n p out o → Goes (j + 1) n q ext o
 goes-more j n p q o out ext h s e f g ss k x l =
     let m = n - (j + 1) in
     let a : n ≡ j + suc m = omega arith in
     let b : n - 1 - j ≡ m = omega arith in
     let c : suc m ≡ n - j = omega arith in
     let s′ : Permutes j (j + suc m) p = subst (λ (z : ℕ). Permutes j z p) a s in
-    let f′ : ext ≡ out ++ map (hit (p j)) (counting (j + 1) m) = f ∙ ap (λ z. out ++ map (hit (p j)) (counting (j + 1) z)) b in
-    ap (λ z. source (chain n) z x) (ap (λ z. z ++ ss) f′ ∙ append-assoc out (map (hit (p j)) (counting (j + 1) m)) ss)
-    ∙ g (map (hit (p j)) (counting (j + 1) m) ++ ss)
-    (λ y hy ly. ap (λ z. source (chain-from j z) (map (hit (p j)) (counting (j + 1) m) ++ ss) y) (sym c)
+    let f′ : ext ≡ out ++ map (row-setting (p j)) (counting (j + 1) m) = f ∙ ap (λ z. out ++ map (row-setting (p j)) (counting (j + 1) z)) b in
+    ap (λ z. source (chain n) z x) (ap (λ z. z ++ ss) f′ ∙ append-assoc out (map (row-setting (p j)) (counting (j + 1) m)) ss)
+    ∙ g (map (row-setting (p j)) (counting (j + 1) m) ++ ss)
+    (λ y hy ly. ap (λ z. source (chain-from j z) (map (row-setting (p j)) (counting (j + 1) m) ++ ss) y) (sym c)
     ∙ chain-more j m p ss s′ (λ w hw lw. k w hw (omega arith) ∙ e w (omega arith)) y hy (omega arith))
     x l
 

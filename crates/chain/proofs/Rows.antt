@@ -19,18 +19,18 @@ use Rattle.plan.specs.declared.Comparator.{Comparator}
 use Rattle.plan.specs.Plans.{on, at, crossed, came-from, source, Within, Permutation, Brings, Lawful}
 use Rattle.plan.proofs.Running.{source-append, within-append, brings-from}
 use Rattle.chain.specs.Listing.{chain-from, chain, Fits}
-use Rattle.chain.specs.Stages.{hit, Permutes, Brings-from}
+use Rattle.chain.specs.Stages.{row-setting, Permutes, Brings-from}
 
-through : (j w k x : ℕ) → came-from (on j k) (hit w k) x ≡ cond (eqb k w) (crossed (on j k) x) x
+through : (j w k x : ℕ) → came-from (on j k) (row-setting w k) x ≡ cond (eqb k w) (crossed (on j k) x) x
 through j w k x = elim (eqb k w) as (λ b. came-from (on j k) (cond b Swapped Straight) x ≡ cond b (crossed (on j k) x) x) [ true ↦ refl | false ↦ refl ]
 
 -- the row of wire j, whose comparator with wire w is swapped
-row-past : (j w a m x : ℕ) → w < a → source (map (on j) (counting a m)) (map (hit w) (counting a m)) x ≡ x
+row-past : (j w a m x : ℕ) → w < a → source (map (on j) (counting a m)) (map (row-setting w) (counting a m)) x ≡ x
 unfolding source
 row-past j w a zero x h = refl
 row-past j w a (suc m) x h = let e = row-past j w (a + 1) m x (omega arith) in rw e (through j w a x ∙ grind (arith, tells))
 
-row-at : (j w a m x : ℕ) → a ≤ w → w < a + m → source (map (on j) (counting a m)) (map (hit w) (counting a m)) x ≡ crossed (on j w) x
+row-at : (j w a m x : ℕ) → a ≤ w → w < a + m → source (map (on j) (counting a m)) (map (row-setting w) (counting a m)) x ≡ crossed (on j w) x
 unfolding source
 row-at j w a zero x h l = absurd (omega arith)
 row-at j w a (suc m) x h l =
@@ -40,7 +40,7 @@ row-at j w a (suc m) x h l =
     rw r (through j w a (crossed (on j w) x) ∙ rw (ne-eqb a w d)))
     (cases-eq a w)
 
-row : (j w m x : ℕ) → j ≤ w → w < j + suc m → source (map (on j) (counting (j + 1) m)) (map (hit w) (counting (j + 1) m)) x ≡ crossed (on j w) x
+row : (j w m x : ℕ) → j ≤ w → w < j + suc m → source (map (on j) (counting (j + 1) m)) (map (row-setting w) (counting (j + 1) m)) x ≡ crossed (on j w) x
 row j w m x h l =
     ⊎-elim
     (λ e. row-past j w (j + 1) m x (omega arith) ∙ grind (arith, tells))
@@ -102,11 +102,11 @@ crossed-first a b = grind (arith, tells)
 
 -- one row, and any settings that do for the rest
 pub chain-more : (j m : ℕ) (p : ℕ → ℕ) (ss : List Setting) → Permutes j (j + suc m) p → Brings-from (j + 1) m ss (settled j p) →
-    Brings-from j (suc m) (map (hit (p j)) (counting (j + 1) m) ++ ss) p
+    Brings-from j (suc m) (map (row-setting (p j)) (counting (j + 1) m) ++ ss) p
 unfolding chain-from
 chain-more j m p ss s r x h l =
-    source-append (map (on j) (counting (j + 1) m)) (chain-from (j + 1) m) (map (hit (p j)) (counting (j + 1) m)) ss x
-    (length-map-counting (hit (p j)) (j + 1) m ∙ sym (length-map-counting (on j) (j + 1) m))
+    source-append (map (on j) (counting (j + 1) m)) (chain-from (j + 1) m) (map (row-setting (p j)) (counting (j + 1) m)) ss x
+    (length-map-counting (row-setting (p j)) (j + 1) m ∙ sym (length-map-counting (on j) (j + 1) m))
     ∙ row j (p j) m (source (chain-from (j + 1) m) ss x) (s .low j (omega arith) (omega arith)) (s .high j (omega arith) (omega arith))
     ∙ ⊎-elim
     (λ e. let f : j ≡ x = e in let u = untouched (j + 1) (chain-from (j + 1) m) ss x (above-chain (j + 1) (j + 1) m (omega arith)) (omega arith) in
@@ -121,7 +121,7 @@ chain-route zero j p s = ([], refl, λ x h l. absurd (omega arith))
 chain-route (suc m) j p s =
     let r = chain-route m (j + 1) (settled j p) (permutes-rest j m p s) in
     let e = r .1 in
-    (map (hit (p j)) (counting (j + 1) m) ++ r .0, simp (length-append, length-map-counting) (omega arith), chain-more j m p (r .0) s (r .2))
+    (map (row-setting (p j)) (counting (j + 1) m) ++ r .0, simp (length-append, length-map-counting) (omega arith), chain-more j m p (r .0) s (r .2))
 
 within-row : (n j a m : ℕ) → j < a → a + m ≤ n → Within n (map (on j) (counting a m))
 within-row n j a zero h l = tt

@@ -10,8 +10,8 @@ use Rattle.plan.specs.Plans.{source}
 use Rattle.chain.specs.Listing.{chain-from}
 
 -- the setting of the comparator with wire k where the item wanted stands on wire w
-abbrev pub hit : ℕ → ℕ → Setting
-hit w k = cond (eqb k w) Swapped Straight
+abbrev pub row-setting : ℕ → ℕ → Setting
+row-setting w k = cond (eqb k w) Swapped Straight
 
 -- p takes the wires from j up to n to each other
 pub record Permutes (j n : ℕ) (p : ℕ → ℕ) : Type 0 where

@@ -6,7 +6,7 @@ ghost use Rattle.std.specs.Iters.{counting};
 ghost use Rattle.std.specs.Results.{Cases};
 ghost use Rattle.plan.specs.Plans.{nth, at, on, crossed, Routed};
 ghost use Rattle.chain.specs.Listing.{chain, Fits, Unfit};
-ghost use Rattle.chain.specs.Stages.{hit, Permutes, Brings-from};
+ghost use Rattle.chain.specs.Stages.{row-setting, Permutes, Brings-from};
 use plan::Comparator;
 use plan::Plan;
 use plan::Setting;
@@ -24,7 +24,7 @@ pub struct Chain {
 impl Chain {
     // The chain over 2 to 64 wires.
     pub fn new(wires: usize) -> Result<Chain, Refusal>
-        ensures { λ r. ⌜ Cases r (λ c. (c .width ≡ wires) × (2 * length (chain wires) + wires ≡ wires * wires)) (Unfit wires) ⌝ }
+        ensures { λ r. ⌜ Cases r (λ c. (c .width ≡ wires) × (length (chain wires) ≡ (wires * (wires - 1)) / 2)) (Unfit wires) ⌝ }
     {
         if wires < 2 || wires > 64 {
             return Err(Reason::UnfitWires.at(0));
@@ -93,7 +93,7 @@ fn listed(wires: usize, k: usize) -> Option<Comparator>
 
 // The setting of the comparator with wire k, where the item wanted stands on wire `from`.
 fn setting_with(k: usize, from: usize) -> Setting
-    ensures { λ r. ⌜ r ≡ hit from k ⌝ }
+    ensures { λ r. ⌜ r ≡ row-setting from k ⌝ }
 {
     if k == from {
         Setting::Swapped
@@ -105,7 +105,7 @@ fn setting_with(k: usize, from: usize) -> Setting
 // Sets the row of a wire for the item that stands on another wire after it, or on itself.
 fn set_row(row: &mut [Setting], first: usize, from: usize)
     requires { ⌜ first + length (now row) < 64 ⌝ }
-    ensures { λ _. ⌜ now (row .exit) ≡ map (hit from) (counting (first + 1) (length (now (row .entry)))) ⌝ }
+    ensures { λ _. ⌜ now (row .exit) ≡ map (row-setting from) (counting (first + 1) (length (now (row .entry)))) ⌝ }
 {
     for i in 0..row.len() {
         row[i] = setting_with(first + 1 + i, from);

@@ -35,6 +35,11 @@ nth-counting a zero k h = absurd (omega arith)
 nth-counting a (suc n) zero h = let e : a ≡ a + 0 = omega arith in ap Some e
 nth-counting a (suc n) (suc k) h = let e : a + 1 + k ≡ a + suc k = omega arith in nth-counting (a + 1) n k (omega arith) ∙ ap Some e
 
+pub nth-at : {X : Type 0} (xs : List X) (k : ℕ) (d : X) → k < length xs → nth xs k ≡ Some (getD xs k d)
+nth-at [] k d h = absurd (omega arith)
+nth-at (x ∷ xs) zero d h = refl
+nth-at (x ∷ xs) (suc k) d h = nth-at xs k d (omega arith)
+
 pub nth-past : {X : Type 0} (xs : List X) (k : ℕ) → length xs ≤ k → nth xs k ≡ None
 nth-past [] k h = refl
 nth-past (x ∷ xs) zero h = absurd (omega arith)

@@ -15,7 +15,7 @@ use Rattle.std.proofs.shelf.Counted.{length-counting, getD-counting}
 use Rattle.plan.specs.declared.Setting.{Setting}
 use Rattle.plan.specs.declared.Setting.the-variants.{Straight, Swapped}
 use Rattle.plan.specs.declared.Comparator.{Comparator}
-use Rattle.plan.specs.Plans.{turned, run, Brings, at, Permutation, Within, nth, crossed, came-from, source}
+use Rattle.plan.specs.Plans.{applied, run, Brings, at, Permutation, Within, nth, crossed, came-from, source}
 
 getD-exchanged : {X : Type 0} (xs : List X) (c : Comparator) (x : ℕ) (d : X) → c .first < length xs → c .second < length xs →
     getD (exchanged xs (c .first) (c .second)) x d ≡ getD xs (crossed c x) d
@@ -26,20 +26,20 @@ getD-exchanged xs c x d h l =
     let s2 = s .2 x in
     grind (arith, tells)
 
-getD-turned : {X : Type 0} (xs : List X) (c : Comparator) (s : Setting) (x : ℕ) (d : X) → c .first < length xs → c .second < length xs →
-    getD (turned c s xs) x d ≡ getD xs (came-from c s x) d
-getD-turned xs c Straight x d h l = refl
-getD-turned xs c Swapped x d h l = getD-exchanged xs c x d h l
+getD-applied : {X : Type 0} (xs : List X) (c : Comparator) (s : Setting) (x : ℕ) (d : X) → c .first < length xs → c .second < length xs →
+    getD (applied c s xs) x d ≡ getD xs (came-from c s x) d
+getD-applied xs c Straight x d h l = refl
+getD-applied xs c Swapped x d h l = getD-exchanged xs c x d h l
 
-length-turned : {X : Type 0} (c : Comparator) (s : Setting) (xs : List X) → length (turned c s xs) ≡ length xs
-length-turned c Straight xs = refl
-length-turned c Swapped xs = length-exchanged xs (c .first) (c .second)
+length-applied : {X : Type 0} (c : Comparator) (s : Setting) (xs : List X) → length (applied c s xs) ≡ length xs
+length-applied c Straight xs = refl
+length-applied c Swapped xs = length-exchanged xs (c .first) (c .second)
 
 pub length-run : {X : Type 0} (cs : List Comparator) (ss : List Setting) (xs : List X) → length (run cs ss xs) ≡ length xs
 unfolding run
 length-run [] ss xs = refl
 length-run (c ∷ cs) [] xs = refl
-length-run (c ∷ cs) (s ∷ ss) xs = length-run cs ss (turned c s xs) ∙ length-turned c s xs
+length-run (c ∷ cs) (s ∷ ss) xs = length-run cs ss (applied c s xs) ∙ length-applied c s xs
 
 pub getD-run : {X : Type 0} (n : ℕ) (cs : List Comparator) (ss : List Setting) (xs : List X) (x : ℕ) (d : X) → Within n cs → length xs ≡ n →
     getD (run cs ss xs) x d ≡ getD xs (source cs ss x) d
@@ -49,8 +49,8 @@ getD-run n (c ∷ cs) [] xs x d w h = refl
 getD-run n (c ∷ cs) (s ∷ ss) xs x d w h =
     let w0 = w .0 in
     let w1 = w .1 in
-    getD-run n cs ss (turned c s xs) x d (w .2) (length-turned c s xs ∙ h)
-    ∙ getD-turned xs c s (source cs ss x) d (omega arith) (omega arith)
+    getD-run n cs ss (applied c s xs) x d (w .2) (length-applied c s xs ∙ h)
+    ∙ getD-applied xs c s (source cs ss x) d (omega arith) (omega arith)
 
 came-from-below : (n : ℕ) (c : Comparator) (s : Setting) (x : ℕ) → c .first < c .second → c .second < n → x < n → came-from c s x < n
 came-from-below n c Straight x h l b = b
@@ -118,7 +118,7 @@ nth-within n (b ∷ cs) (suc k) c w e = nth-within n cs k c (w .2) e
 
 -- one turn of the loop that runs a plan
 pub run-more : {X : Type 0} (cs : List Comparator) (ss : List Setting) (xs ys zs : List X) (k : ℕ) (c : Comparator) (s : Setting) → nth cs k ≡ Some c →
-    k < length ss → ys ≡ turned c (getD ss k s) xs → run (drop k cs) (drop k ss) xs ≡ zs → run (drop (k + 1) cs) (drop (k + 1) ss) ys ≡ zs
+    k < length ss → ys ≡ applied c (getD ss k s) xs → run (drop k cs) (drop k ss) xs ≡ zs → run (drop (k + 1) cs) (drop (k + 1) ss) ys ≡ zs
 unfolding run
 run-more cs ss xs ys zs k c s e h g i =
     ap (run (drop (k + 1) cs) (drop (k + 1) ss)) g ∙ ap₂ (λ t u. run t u xs) (sym (nth-drop cs k c e)) (sym (drop-more ss k s h)) ∙ i

@@ -29,15 +29,15 @@ setting-number Straight = 0
 setting-number Swapped = 1
 
 -- the items after one comparator: swapped, those of its two wires change places
-abbrev pub turned : {X : Type 0} → Comparator → Setting → List X → List X
-turned c Straight xs = xs
-turned c Swapped xs = exchanged xs (c .first) (c .second)
+abbrev pub applied : {X : Type 0} → Comparator → Setting → List X → List X
+applied c Straight xs = xs
+applied c Swapped xs = exchanged xs (c .first) (c .second)
 
 -- the items after a plan's comparators, in order, each under its setting
 unfoldable pub run : {X : Type 0} → List Comparator → List Setting → List X → List X
 run [] ss xs = xs
 run (c ∷ cs) [] xs = xs
-run (c ∷ cs) (s ∷ ss) xs = run cs ss (turned c s xs)
+run (c ∷ cs) (s ∷ ss) xs = run cs ss (applied c s xs)
 
 -- the settings, one for each comparator, bring p about: run on the numbers of the n wires, the plan leaves p,
 -- so that entry j of p is the wire on which the item started that ends on wire j

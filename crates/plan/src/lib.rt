@@ -7,7 +7,7 @@ ghost use Rattle.std.specs.Options.{Cases as BySome};
 ghost use Rattle.std.specs.Orderings.{Decides};
 ghost use Rattle.std.specs.Results.{Cases, isOk};
 ghost use Rattle.plan.specs.declared.Comparator.{Comparator};
-ghost use Rattle.plan.specs.Plans.{setting-number, turned, run, nth, at, Lawful, Permutation, Inverse, Tabled, Misread, Routed, Ran, Brings};
+ghost use Rattle.plan.specs.Plans.{setting-number, applied, run, nth, at, Lawful, Permutation, Inverse, Tabled, Misread, Routed, Ran, Brings};
 ghost use Rattle.plan.specs.Sums.{Sums-along-routes};
 use refusal::Reason;
 use refusal::Refusal;
@@ -63,10 +63,11 @@ pub trait Plan {
         ensures { λ r. ⌜ Routed (width (now (self .entry))) (listing (now (self .entry))) (now (permutation .entry)) (now (settings .entry)) (now (settings .exit)) r ⌝ };
 }
 
-fn turn<T>(comparator: Comparator, setting: Setting, items: &mut [T])
+// Lets one comparator work on the items.
+fn apply<T>(comparator: Comparator, setting: Setting, items: &mut [T])
     requires first { ⌜ comparator .first < length (now items) ⌝ }
     requires second { ⌜ comparator .second < length (now items) ⌝ }
-    ensures { λ _. ⌜ now (items .exit) ≡ turned comparator setting (now (items .entry)) ⌝ }
+    ensures { λ _. ⌜ now (items .exit) ≡ applied comparator setting (now (items .entry)) ⌝ }
 {
     match setting {
         Setting::Straight => {}
@@ -91,7 +92,7 @@ pub fn run_plan<P: Plan, T>(plan: &P, settings: &[Setting], items: &mut [T]) -> 
     }
     for k in 0..settings.len() {
         if let Some(comparator) = plan.comparator(k) {
-            turn(comparator, settings[k], items);
+            apply(comparator, settings[k], items);
         }
     }
     Ok(())

@@ -48,32 +48,32 @@ set-layer-requires t c κs =
     let f2 = f .2 in
     record { pairs = omega arith; places = omega arith }
 
-pub halve-even-requires : need.halve-even-requires
-halve-even-requires t c κs =
+pub halve-requires : need.halve-requires
+halve-requires t c κs =
     let f = parts (c .args .levels) (c .width-pairs .result) (c .size-inner .result) (omega arith) (c .pre .few) (c .width-pairs .ensures .value) (c .size-inner .ensures .value) in
     let f0 = f .0 in
     let f1 = f .1 in
     let f2 = f .2 in
     f .1
 
-pub halve-even-back-requires : need.halve-even-back-requires
-halve-even-back-requires t c κs =
+pub halve-requires-2 : need.halve-requires-2
+halve-requires-2 t c κs =
     let f = parts (c .args .levels) (c .width-pairs .result) (c .size-inner .result) (omega arith) (c .pre .few) (c .width-pairs .ensures .value) (c .size-inner .ensures .value) in
     let f0 = f .0 in
     let f1 = f .1 in
     let f2 = f .2 in
     f .1
 
-pub halve-odd-requires : need.halve-odd-requires
-halve-odd-requires t c κs =
+pub halve-requires-3 : need.halve-requires-3
+halve-requires-3 t c κs =
     let f = parts (c .args .levels) (c .width-pairs .result) (c .size-inner .result) (omega arith) (c .pre .few) (c .width-pairs .ensures .value) (c .size-inner .ensures .value) in
     let f0 = f .0 in
     let f1 = f .1 in
     let f2 = f .2 in
     f .1
 
-pub halve-odd-back-requires : need.halve-odd-back-requires
-halve-odd-back-requires t c κs =
+pub halve-requires-4 : need.halve-requires-4
+halve-requires-4 t c κs =
     let f = parts (c .args .levels) (c .width-pairs .result) (c .size-inner .result) (omega arith) (c .pre .few) (c .width-pairs .ensures .value) (c .size-inner .ensures .value) in
     let f0 = f .0 in
     let f1 = f .1 in
@@ -88,7 +88,7 @@ route-over-requires t c κs =
     let f2 = f .2 in
     let v = inverse-pairs (c .args .levels) (c .width-pairs .result) (at (c .args .entries .now)) (at (c .args .inverse .now)) (omega arith) (c .width-pairs .ensures .value) (c .pre .inverse) in
     let hv = halved-like (c .width-pairs .result) (at (c .args .entries .now)) (at (c .args .inverse .now)) (sides (c .halves-by-end-ends .result)) (sides (c .halves-by-start-starts .result)) v (c .halves-by-end-ends .ensures) (c .halves-by-start-starts .ensures) in
-    (omega arith, (omega arith, (inverse-like (c .width-pairs .result) _ (half-of (at (c .args .entries .now)) (sides (c .halves-by-end-ends .result)) 0) (half-of (at (c .args .inverse .now)) (sides (c .halves-by-start-starts .result)) 0) _ _ (c .width-pairs .ensures .value) (c .halve-even .ensures) (c .halve-even-back .ensures) (half-inverse (c .width-pairs .result) _ _ _ _ hv 0 (omega arith)), omega arith)))
+    (omega arith, (omega arith, (inverse-like (c .width-pairs .result) _ (half-of (at (c .args .entries .now)) (sides (c .halves-by-end-ends .result)) 0) (half-of (at (c .args .inverse .now)) (sides (c .halves-by-start-starts .result)) 0) _ _ (c .width-pairs .ensures .value) (c .halve .ensures) (c .halve-2 .ensures) (half-inverse (c .width-pairs .result) _ _ _ _ hv 0 (omega arith)), omega arith)))
 
 pub route-over-requires-2 : need.route-over-requires-2
 route-over-requires-2 t c κs =
@@ -98,7 +98,7 @@ route-over-requires-2 t c κs =
     let f2 = f .2 in
     let v = inverse-pairs (c .args .levels) (c .width-pairs .result) (at (c .args .entries .now)) (at (c .args .inverse .now)) (omega arith) (c .width-pairs .ensures .value) (c .pre .inverse) in
     let hv = halved-like (c .width-pairs .result) (at (c .args .entries .now)) (at (c .args .inverse .now)) (sides (c .halves-by-end-ends .result)) (sides (c .halves-by-start-starts .result)) v (c .halves-by-end-ends .ensures) (c .halves-by-start-starts .ensures) in
-    (omega arith, (omega arith, (inverse-like (c .width-pairs .result) _ (half-of (at (c .args .entries .now)) (sides (c .halves-by-end-ends .result)) 1) (half-of (at (c .args .inverse .now)) (sides (c .halves-by-start-starts .result)) 1) _ _ (c .width-pairs .ensures .value) (c .halve-odd .ensures) (c .halve-odd-back .ensures) (half-inverse (c .width-pairs .result) _ _ _ _ hv 1 (omega arith)), omega arith)))
+    (omega arith, (omega arith, (inverse-like (c .width-pairs .result) _ (half-of (at (c .args .entries .now)) (sides (c .halves-by-end-ends .result)) 1) (half-of (at (c .args .inverse .now)) (sides (c .halves-by-start-starts .result)) 1) _ _ (c .width-pairs .ensures .value) (c .halve-3 .ensures) (c .halve-4 .ensures) (half-inverse (c .width-pairs .result) _ _ _ _ hv 1 (omega arith)), omega arith)))
 
 pub set-layer-requires-2 : need.set-layer-requires-2
 set-layer-requires-2 t c κs =
@@ -122,7 +122,7 @@ returns t c =
     record {
       route = joined-settings (sides (c .halves-by-end-ends .result)) (sides (c .halves-by-start-starts .result)) (e .route) (o .route) (c .width-pairs .result);
       count = l ∙ sym (ap length (network-step (c .args .levels) (c .width-pairs .result) (omega arith) (c .width-pairs .ensures .value)));
-      sent = sends (c .args .levels) (c .width-pairs .result) (at (c .args .entries .now)) (at (c .args .inverse .now)) (sides (c .halves-by-end-ends .result)) (sides (c .halves-by-start-starts .result)) _ _ (e .route) (o .route) _ (omega arith) (c .width-pairs .ensures .value) hv (c .halves-by-end-ends .ensures .first) (e .count) (o .count) (c .halve-even .ensures) (c .halve-odd .ensures) (e .sent) (o .sent) refl;
+      sent = sends (c .args .levels) (c .width-pairs .result) (at (c .args .entries .now)) (at (c .args .inverse .now)) (sides (c .halves-by-end-ends .result)) (sides (c .halves-by-start-starts .result)) _ _ (e .route) (o .route) _ (omega arith) (c .width-pairs .ensures .value) hv (c .halves-by-end-ends .ensures .first) (e .count) (o .count) (c .halve .ensures) (c .halve-3 .ensures) (e .sent) (o .sent) refl;
       stands = four-parts (c .args .settings .now) _ _ _ _ (layer (sides (c .halves-by-start-starts .result)) 0 (c .width-pairs .result)) (e .route) (o .route) (layer (sides (c .halves-by-end-ends .result)) 1 (c .width-pairs .result - 1)) (c .args .start) (c .width-pairs .result) (c .size-inner .result) (length-map-counting _ 0 (c .width-pairs .result)) (e .count ∙ sym (c .size-inner .ensures .value)) (o .count ∙ sym (c .size-inner .ensures .value)) (omega arith)
           (c .set-layer .ensures) (e .stands) (o .stands) (c .set-layer-2 .ensures);
     }

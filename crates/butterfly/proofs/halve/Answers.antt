@@ -11,4 +11,4 @@ pub loop-i-again : need.loop-i-again
 loop-i-again c =
     let f = half-of (at (c .args .entries .now)) (sides (c .args .halves .now)) (side (c .args .half)) in
     let l = c .loop-i .inv .0 in
-    (simp length-set l, rw (c .seat-of .ensures) (fill-by-more f (c .loop-i .table) (c .loop-i .i) 0 (omega arith) (c .loop-i .inv .1)))
+    (simp length-set l, rw (c .member-of .ensures) (fill-by-more f (c .loop-i .table) (c .loop-i .i) 0 (omega arith) (c .loop-i .inv .1)))

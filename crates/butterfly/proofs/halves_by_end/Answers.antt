@@ -11,4 +11,4 @@ use Rattle.butterfly.proofs.halves_by_end.Needs as need
 pub returns : need.returns
 returns c =
     coloured-like (c .args .pairs) (at (c .partners-table .result)) (partner (at (c .args .entries .now)) (at (c .args .inverse .now))) _ (c .partners-table .ensures)
-    (contracted-all (c .args .pairs) (c .contract .last .table) (replicate 64 Even) (c .paint .result) (at (c .partners-table .result)) (c .contract .ensures) (omega arith) refl (c .paint .ensures))
+    (contracted-all (c .args .pairs) (c .contract .last .table) (replicate 64 Even) (c .assign .result) (at (c .partners-table .result)) (c .contract .ensures) (omega arith) refl (c .assign .ensures))

@@ -10,7 +10,7 @@ use Rattle.std.proofs.shelf.Parts.{take-putMid}
 use Rattle.plan.specs.declared.Setting.{Setting}
 use Rattle.plan.specs.Plans.{at}
 use Rattle.plan.proofs.Places.{length-part, length-put}
-use Rattle.chain.specs.Stages.{hit}
+use Rattle.chain.specs.Stages.{row-setting}
 use Rattle.chain.proofs.Routing.{Goes, chain-left, none-left, permutes-more, goes-more, goes-all}
 use Rattle.chain.proofs.set_rows.Needs as need
 
@@ -22,8 +22,8 @@ loop-j-again c =
     let l = chain-left (c .loop-j .j) (c .args .wires) (c .loop-j-test .taken) in
     let i0 = c .loop-j .inv .0 in
     let i1 = c .loop-j .inv .1 in
-    let r : c .set-row .last .row ≡ map (hit (at (c .loop-j .wanted) (c .loop-j .j))) (counting (c .loop-j .j + 1) (c .args .wires - 1 - c .loop-j .j)) =
-    c .set-row .ensures ∙ ap (λ m. map (hit (at (c .loop-j .wanted) (c .loop-j .j))) (counting (c .loop-j .j + 1) m)) (length-part (c .loop-j .settings) (c .loop-j .start) (c .args .wires - 1 - c .loop-j .j) (omega arith)) in
+    let r : c .set-row .last .row ≡ map (row-setting (at (c .loop-j .wanted) (c .loop-j .j))) (counting (c .loop-j .j + 1) (c .args .wires - 1 - c .loop-j .j)) =
+    c .set-row .ensures ∙ ap (λ m. map (row-setting (at (c .loop-j .wanted) (c .loop-j .j))) (counting (c .loop-j .j + 1) m)) (length-part (c .loop-j .settings) (c .loop-j .start) (c .args .wires - 1 - c .loop-j .j) (omega arith)) in
     let n : length (c .set-row .last .row) ≡ c .args .wires - 1 - c .loop-j .j = ap length r ∙ length-map-counting _ _ _ in
     let t = length-put (c .loop-j .settings) (c .set-row .last .row) (c .loop-j .start) (c .args .wires - 1 - c .loop-j .j) (omega arith) n in (
       c .rename .kept .entries ∙ i0,

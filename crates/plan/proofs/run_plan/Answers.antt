@@ -5,15 +5,15 @@ use Rattle.plan.proofs.Running.{nth-within, run-more, run-all, nth-none, moved
 use Rattle.plan.proofs.run_plan.Needs as need
 use Rattle.plan.proofs.run_plan.Needs.{in-Some, in-rest}
 
-pub turn-requires : need.turn-requires
-turn-requires g c κs =
+pub apply-requires : need.apply-requires
+apply-requires g c κs =
     let w = nth-within _ _ _ _ (g .P·Plan·met .lawful (c .args .plan .now) .within) (sym (c .in-Some .ensures tt)) in
     record { first = omega arith; second = omega arith }
 
 pub loop-k-again : need.loop-k-again
 loop-k-again g c =
     elim (c .match-comparator .came) [
-      | in-Some w ↦ run-more _ (c .args .settings .now) _ _ _ (c .loop-k .k) _ _ (sym (w .in-Some .ensures tt)) (c .loop-k-test .taken) (w .items-is ∙ w .turn .ensures) (c .loop-k .inv)
+      | in-Some w ↦ run-more _ (c .args .settings .now) _ _ _ (c .loop-k .k) _ _ (sym (w .in-Some .ensures tt)) (c .loop-k-test .taken) (w .items-is ∙ w .apply .ensures) (c .loop-k .inv)
       | in-rest w ↦ absurd (let n = nth-none (g .P·Plan .listing (c .args .plan .now)) (c .loop-k .k) (sym (w .in-rest .ensures tt)) in omega arith)
     ]
 
