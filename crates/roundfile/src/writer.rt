@@ -35,6 +35,7 @@ fn write_head(buffer: &mut [u8], kind: Kind, map: u16)
 
 // Writes a record whose standing fields are these numbers, or refuses a buffer that is too short for it.
 // What leaves defaulted fields out is to pick the map and the numbers, and call this.
+// (That the numbers fit four bytes is said for the caller, whose laws need it of its list of them.)
 fn write_record(buffer: &mut [u8], kind: Kind, map: u16, numbers: &[u32]) -> Result<(), Refusal>
     ensures after { λ _. ⌜ now (buffer .exit) ≡ written (3 + 4 * length (now (numbers .entry))) (record-bytes kind map (now (numbers .entry))) (now (buffer .entry)) ⌝ }
     ensures answer { λ r. ⌜ r ≡ write-answer (3 + 4 * length (now (numbers .entry))) (now (buffer .entry)) ⌝ }
