@@ -1,4 +1,5 @@
 pub mod Small
 pub mod Ciphertexts
 pub mod Comparators
+pub mod Plans
 pub mod Examples
