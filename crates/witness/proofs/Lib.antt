@@ -1,0 +1,3 @@
+mod Draws
+mod Gathering
+mod Judging
