@@ -1,3 +1,3 @@
 mod Draws
-mod Gathering
+pub mod Gathering
 mod Judging

@@ -42,7 +42,7 @@ pub struct Examination<X> {
 
 // What one disjunctive witness shows, and of which branch.
 #[derive(Clone, Copy)]
-pub(crate) struct Drawn<X> {
+pub struct Drawn<X> {
     pub setting: Setting,
     pub sample: Sample<X>,
 }
