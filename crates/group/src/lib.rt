@@ -46,6 +46,10 @@ pub trait Exponent: Copy {
     fn read(posted: Self::Posted) -> Option<Self>
         ensures { λ r. ⌜ BySome r (exponents .order ≤ number posted) (λ e. value e ≡ number posted) ⌝ };
 
+    // Whether two posted numbers are the same, fit or not.
+    fn same_posted(a: Self::Posted, b: Self::Posted) -> bool
+        ensures { λ r. ⌜ r ≡ eqb (number a) (number b) ⌝ };
+
     // The number to post.
     fn post(self) -> Self::Posted
         ensures { λ r. ⌜ number r ≡ value self ⌝ };

@@ -85,6 +85,10 @@ pub impl<const Q: u32, const L: u32, M: PrimeOrder<Q, L>> Exponent for Modular<
         })
     }
 
+    fn same_posted(a: u32, b: u32) -> bool {
+        a == b
+    }
+
     fn post(self) -> u32 {
         self.value
     }

@@ -1,0 +1,5 @@
+pub mod Powers
+pub mod Lines
+pub mod Lists
+pub mod Sampling
+pub mod Soundness

@@ -1,0 +1,4 @@
+pub mod Findings
+pub mod Rule
+pub mod Meaning
+pub mod Formula

@@ -1,0 +1,3 @@
+mod Draws
+pub mod Gathering
+mod Judging
