@@ -3,3 +3,4 @@ pub mod Lines
 pub mod Lists
 pub mod Sampling
 pub mod Soundness
+pub mod Examples
