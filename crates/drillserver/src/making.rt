@@ -67,10 +67,14 @@ fn known_of<X: Exponent>(private: X, r: X) -> Known<X> {
     }
 }
 
-// The exponent that answers at z: (a·z + b) / (x·z + 1).
+// The exponent that answers at z: (a·z + b) / (x·z + 1). Where x·z + 1 is 0 the folded key is the one, so that
+// it shows no exponent: there an honest maker answers by its own, which is b.
 fn gamma_at<X: Exponent>(private: X, known: Known<X>, z: X) -> X {
     let above = known.a.multiply(z).add(known.b);
     let below = private.multiply(z).add(X::from_word(1));
+    if below.equals(X::from_word(0)) {
+        return known.b;
+    }
     above.multiply(below.invert())
 }
 
