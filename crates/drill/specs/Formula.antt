@@ -25,6 +25,6 @@ module _ (E : Exponents) where
   formula s = product E (difference E (remainder E 0) (top s)) (E .inverse (bottom s))
 
   -- the exponent of all three samples where it is one, else the key
-  unfoldable pub conclusion : Samples ℕ → Conclusion ℕ
+  abbrev pub conclusion : Samples ℕ → Conclusion ℕ
   conclusion s =
       elim (both (eqb (s .first .gamma) (s .second .gamma)) (eqb (s .second .gamma) (s .third .gamma))) [ true ↦ Common (s .first .gamma) | false ↦ Key (formula s) ]
