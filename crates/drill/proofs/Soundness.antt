@@ -46,7 +46,7 @@ module _ {P : Type 0} {G : Operations P} (laws : GroupLaws G) {E : Exponents} (e
 
     -- what is computed is what the rule says
     pub conclusion-holds : Concluded E s (conclusion E s)
-    unfolding conclusion A B
+    unfolding A B
     conclusion-holds = go (eqb (s .first .gamma) (s .second .gamma)) (eqb (s .second .gamma) (s .third .gamma)) refl refl
         (key-holds laws exponents same s (three .fit) y A B (three .first) (three .second) (three .third))
       where

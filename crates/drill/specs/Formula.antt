@@ -4,9 +4,12 @@ use Prim.Native.Nat.{ℕ}
 use lib.Dec.{eqb}
 use Rattle.group.specs.Exponents.{Exponents, remainder, sum, difference, product}
 use Rattle.witness.specs.Refusals.{both}
+use Rattle.witness.specs.declared.samples.Examination.{Examination}
 use Rattle.witness.specs.declared.samples.Samples.{Samples}
+use Rattle.drill.specs.Findings.{answer}
 use Rattle.drill.specs.declared.finding.Conclusion.{Conclusion}
 use Rattle.drill.specs.declared.finding.Conclusion.the-variants.{Common, Key}
+use Rattle.drill.specs.declared.finding.Finding.{Finding}
 
 module _ (E : Exponents) where
   -- the second difference of three numbers at the samples' z, up to a factor
@@ -25,6 +28,10 @@ module _ (E : Exponents) where
   formula s = product E (difference E (remainder E 0) (top s)) (E .inverse (bottom s))
 
   -- the exponent of all three samples where it is one, else the key
-  unfoldable pub conclusion : Samples ℕ → Conclusion ℕ
+  abbrev pub conclusion : Samples ℕ → Conclusion ℕ
   conclusion s =
       elim (both (eqb (s .first .gamma) (s .second .gamma)) (eqb (s .second .gamma) (s .third .gamma))) [ true ↦ Common (s .first .gamma) | false ↦ Key (formula s) ]
+
+  -- what is found by it
+  abbrev pub computed : Examination ℕ → Finding ℕ
+  computed e = answer E (conclusion (e .product)) (e .branch .setting) (conclusion (e .branch .samples))

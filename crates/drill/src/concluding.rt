@@ -1,14 +1,15 @@
 // What three samples show.
 ghost use mathlib.Core.Path.{_≡_};
-ghost use Rattle.witness.specs.Samples.{samples-meaning};
-ghost use Rattle.drill.specs.Formula.{second, formula, conclusion};
-ghost use Rattle.drill.specs.Findings.{conclusion-meaning, finding-meaning, ordered, answer};
+ghost use Rattle.witness.specs.Samples.{samples-meaning, examination-meaning};
+ghost use Rattle.drill.specs.Formula.{second, formula, conclusion, computed};
+ghost use Rattle.drill.specs.Findings.{conclusion-meaning, finding-meaning, answer};
 use crate::finding::Conclusion;
 use crate::finding::Finding;
 use crate::finding::Reencryption;
 use group::Exponent;
 use plan::Setting;
-use witness::samples::Sample;
+use witness::samples::Branch;
+use witness::samples::Examination;
 use witness::samples::Samples;
 
 // The second difference of three numbers at the samples' z, up to a factor.
@@ -87,4 +88,13 @@ pub fn join<X: Exponent>(
             r2: gamma,
         }),
     }
+}
+
+// What is found from all samples.
+pub fn find<X: Exponent>(examination: Examination<X>) -> Finding<X>
+    ensures { λ r. ⌜ finding-meaning (X·Exponent .value) r ≡ computed (X·Exponent .exponents) (examination-meaning (X·Exponent .value) examination) ⌝ }
+{
+    let Examination { product, branch } = examination;
+    let Branch { setting, samples } = branch;
+    join(conclude(product), setting, conclude(samples))
 }

@@ -5,8 +5,7 @@ ghost use Rattle.witness.specs.Witnesses.{equivalence-meaning, disjunctive-mean
 ghost use Rattle.drill.specs.Findings.{drilled-meaning};
 ghost use Rattle.drill.specs.Rule.{Drilled};
 ghost use Rattle.drill.specs.Meaning.{Shown};
-use crate::concluding::conclude;
-use crate::concluding::join;
+use crate::concluding::find;
 use crate::finding::Finding;
 use group::Exponent;
 use group::Group;
@@ -16,8 +15,6 @@ use witness::examining::examine;
 use witness::posted::Disjunction;
 use witness::posted::Transcript;
 use witness::posted::Witness;
-use witness::samples::Branch;
-use witness::samples::Examination;
 
 // Drills a comparator: three witnesses of its equivalence proof, five of its disjunctive one.
 pub fn drill<G: Group>(
@@ -36,9 +33,7 @@ pub fn drill<G: Group>(
     ensures shown { λ r. ⌜ Shown (G·Group .operations) (comparison-meaning (G·Group .point) comparison) (drilled-meaning (Exponent·Exponent .value) r) ⌝ }
 {
     let examination = examine(g, comparison, equivalence, disjunction)?;
-    let Examination { product, branch } = examination;
-    let Branch { setting, samples } = branch;
     // That the group's order is its exponents' makes what follows right; no number is needed.
     let _ = g.order();
-    Ok(join(conclude(product), setting, conclude(samples)))
+    Ok(find(examination))
 }

@@ -100,9 +100,9 @@ module _ {Point : Type 0} (G : Operations Point) where
       (accepted G (folded-key G key z) (folded-quotient G old new z) (t .commitment) (t .second .challenge) (t .second .exponent))
 
   -- The equivalence proof is of the products of inputs and of outputs.
-  abbrev pub equivalence-accepted : Comparison Point → EquivalenceWitness Point → Bool
-  equivalence-accepted k w =
-      transcript-accepted (k .key) (multiplied G (k .inputs .first) (k .inputs .second)) (multiplied G (k .outputs .first) (k .outputs .second)) (w .z) (w .answered)
+  abbrev pub product-accepted : Comparison Point → (z : ℕ) → Transcript Point ℕ → Bool
+  product-accepted k z t =
+      transcript-accepted (k .key) (multiplied G (k .inputs .first) (k .inputs .second)) (multiplied G (k .outputs .first) (k .outputs .second)) z t
 
   -- The branches pair the first input with each output, at one z.
   abbrev pub disjunction-accepted : Comparison Point → (z : ℕ) → Disjunction Point ℕ → Bool
@@ -113,7 +113,7 @@ module _ {Point : Type 0} (G : Operations Point) where
 
   -- why a witness is refused
   abbrev pub judge-equivalence : Exponents → Comparison Point → EquivalenceWitness Point → Option Reason
-  judge-equivalence E k w = judgement (equivalence-fits E w) (w .answered .first .challenge) (w .answered .second .challenge) (equivalence-accepted k w)
+  judge-equivalence E k w = judgement (equivalence-fits E w) (w .answered .first .challenge) (w .answered .second .challenge) (product-accepted k (w .z) (w .answered))
 
   abbrev pub judge-disjunctive : Exponents → Comparison Point → DisjunctiveWitness Point → Option Reason
   judge-disjunctive E k w = judgement (disjunctive-fits E w) (w .answered .challenges .first) (w .answered .challenges .second) (disjunction-accepted k (w .z) (w .answered))

@@ -7,7 +7,7 @@ ghost use Rattle.std.specs.declared.option.Option.the-variants.{None, Some};
 ghost use Rattle.elgamal.specs.Ciphertexts.{meaning};
 ghost use Rattle.posting.specs.Comparison.{comparison-meaning};
 ghost use Rattle.witness.specs.Witnesses.{transcript-meaning, disjunction-meaning, equivalence-meaning, disjunctive-meaning};
-ghost use Rattle.witness.specs.Refusals.{transcript-accepted, splits, disjunction-accepted, judge-equivalence, judge-disjunctive, at-place, equivalence-refusal, disjunctive-refusal};
+ghost use Rattle.witness.specs.Refusals.{transcript-accepted, product-accepted, splits, disjunction-accepted, judge-equivalence, judge-disjunctive, at-place, equivalence-refusal, disjunctive-refusal};
 ghost use Rattle.witness.specs.Samples.{sample-meaning, drawn-meaning, samples-meaning, branch-meaning, equivalence-sample, drawn, first-three, chosen};
 ghost use Rattle.witness.specs.Examined.{examined-meaning, Examined};
 use crate::posted::Disjunction;
@@ -84,6 +84,25 @@ fn challenges_split<E: Copy, X: Copy>(disjunction: Disjunction<E, X>) -> bool
         && straight.second.challenge ^ swapped.second.challenge == challenges.second
 }
 
+// Whether both answers to the equivalence proof are right: of the products of inputs and of outputs.
+fn product_holds<G: Group>(
+    g: &G,
+    comparison: Comparison<G::Element>,
+    z: G::Exponent,
+    transcript: Transcript<G::Element, G::Exponent>,
+) -> bool
+    ensures { λ r. ⌜ r ≡ product-accepted (G·Group .operations) (comparison-meaning (G·Group .point) comparison) (Exponent·Exponent .value z) (transcript-meaning (G·Group .point) (Exponent·Exponent .value) transcript) ⌝ }
+{
+    let Comparison {
+        key,
+        inputs,
+        outputs,
+    } = comparison;
+    let old = multiply(g, inputs.first, inputs.second);
+    let new = multiply(g, outputs.first, outputs.second);
+    transcript_holds(g, key, old, new, z, transcript)
+}
+
 // Examines a witness of the equivalence proof.
 fn examine_equivalence<G: Group>(
     g: &G,
@@ -110,14 +129,7 @@ fn examine_equivalence<G: Group>(
     if first.challenge == second.challenge {
         return Err(Reason::EqualChallenges.at(place));
     }
-    let Comparison {
-        key,
-        inputs,
-        outputs,
-    } = comparison;
-    let old = multiply(g, inputs.first, inputs.second);
-    let new = multiply(g, outputs.first, outputs.second);
-    if !transcript_holds(g, key, old, new, z, answered) {
+    if !product_holds(g, comparison, z, answered) {
         return Err(Reason::UnacceptedAnswer.at(place));
     }
     Ok(Sample {

@@ -1,6 +1,7 @@
 // What witnesses show: at z, the exponent gamma.
 ghost use mathlib.Core.List.{[], _∷_};
 ghost use mathlib.Core.Path.{_≡_};
+ghost use Rattle.group.specs.Exponents.{remainder, difference};
 ghost use Rattle.plan.specs.declared.Setting.the-variants.{Straight, Swapped};
 ghost use Rattle.witness.specs.Witnesses.{answer-meaning, disjunctive-meaning};
 ghost use Rattle.witness.specs.Samples.{drawn-meaning, branch-meaning, sample-meaning, gamma, drawn, chosen};
@@ -63,12 +64,19 @@ struct Sorted<X> {
     swapped: Gathered<X>,
 }
 
+// The difference of two challenges, as an exponent.
+fn challenge_difference<X: Exponent>(first: u64, second: u64) -> X
+    ensures { λ r. ⌜ X·Exponent .value r ≡ difference (X·Exponent .exponents) (remainder (X·Exponent .exponents) first) (remainder (X·Exponent .exponents) second) ⌝ }
+{
+    X::from_word(first).subtract(X::from_word(second))
+}
+
 // The exponent that two answers to one commitment give: (s - s') / (c - c').
 pub(crate) fn gamma_of<X: Exponent>(first: Answer<X>, second: Answer<X>) -> X
     ensures { λ r. ⌜ X·Exponent .value r ≡ gamma (X·Exponent .exponents) (answer-meaning (X·Exponent .value) first) (answer-meaning (X·Exponent .value) second) ⌝ }
 {
     let above = first.exponent.subtract(second.exponent);
-    let below = X::from_word(first.challenge).subtract(X::from_word(second.challenge));
+    let below = challenge_difference::<X>(first.challenge, second.challenge);
     above.multiply(below.invert())
 }
 

@@ -1,12 +1,12 @@
 use mathlib.Core.List.{map}
-use mathlib.Core.Path.{_≡_, sym, ap, ap₂, subst, _∙_}
+use mathlib.Core.Path.{_≡_, sym, ap, subst, _∙_}
 use Rattle.posting.specs.Comparison.{comparison-meaning}
 use Rattle.std.proofs.shelf.Results.{err-from-errBy}
 use Rattle.std.specs.declared.result.Result.the-variants.{Ok}
 use Rattle.witness.specs.Samples.{examination}
 use Rattle.witness.specs.Witnesses.{equivalence-meaning, disjunctive-meaning}
-use Rattle.drill.specs.Findings.{finding-meaning, answer}
-use Rattle.drill.specs.Formula.{conclusion}
+use Rattle.drill.specs.Findings.{finding-meaning}
+use Rattle.drill.specs.Formula.{computed}
 use Rattle.drill.specs.Rule.{Found}
 use Rattle.drill.proofs.Soundness.{found, drilled-shown}
 use Rattle.drill.proofs.drilling.drill.Needs as need
@@ -28,12 +28,9 @@ returns g c =
     let V = map (disjunctive-meaning point number) (c .args .disjunction .now) in
     let examined = c .in-Continue-examination .ensures tt in
     let same = c .order .ensures .same-order in
-    let is : finding-meaning (g .Exponent·Exponent .value) (c .join .result) ≡ answer E (conclusion E (examination E W V .product)) (examination E W V .branch .setting) (conclusion E (examination E W V .branch .samples)) =
-    c .join .ensures
-    ∙ ap₂ (λ a b. answer E a (c .in-Continue-examination .examination .branch .setting) b) (c .conclude .ensures) (c .conclude-2 .ensures)
-    ∙ ap (λ x. answer E (conclusion E (x .product)) (x .branch .setting) (conclusion E (x .branch .samples))) (examined .1) in
+    let is : finding-meaning (g .Exponent·Exponent .value) (c .find .result) ≡ computed E (examination E W V) = c .find .ensures ∙ ap (computed E) (examined .1) in
     let all = subst (Found E (examination E W V)) (sym is) (found laws (g .Exponent·Exponent .laws) same k W V (examined .0)) in
     record {
       drilled = (examined .0, all);
-      shown = drilled-shown laws (g .Exponent·Exponent .laws) same k W V (Ok (finding-meaning (g .Exponent·Exponent .value) (c .join .result))) (examined .0, all);
+      shown = drilled-shown laws (g .Exponent·Exponent .laws) same k W V (Ok (finding-meaning (g .Exponent·Exponent .value) (c .find .result))) (examined .0, all);
     }

@@ -1,9 +1,9 @@
-use mathlib.Core.Path.{_≡_, sym, ap, ap₂, _∙_}
+use mathlib.Core.Path.{_≡_, sym, ap, _∙_}
 use Rattle.posting.specs.Comparison.{comparison-meaning}
 use Rattle.std.specs.declared.option.Option.the-variants.{Some}
-use Rattle.witness.specs.Refusals.{at-place, equivalence-accepted, transcript-accepted}
+use Rattle.witness.specs.Refusals.{at-place, product-accepted}
 use Rattle.witness.specs.Samples.{equivalence-sample}
-use Rattle.witness.specs.Witnesses.{equivalence-meaning, transcript-meaning}
+use Rattle.witness.specs.Witnesses.{equivalence-meaning}
 use Rattle.witness.proofs.Judging.{unfit, equal, unaccepted, nothing-refused}
 use Rattle.witness.proofs.examining.examine_equivalence.Needs as need
 
@@ -16,8 +16,8 @@ returns-then-first-second g c =
     ap (at-place (c .args .place)) (equal _ _ _ _ (read .0) (sym (ap (λ w. w .answered .first .challenge) (read .1)) ∙ c .if-first-second .taken ∙ ap (λ w. w .answered .second .challenge) (read .1)))
     ∙ ap Some (sym (c .at-then-first-second .ensures))
 
-pub returns-then-not-transcript-holds : need.returns-then-not-transcript-holds
-returns-then-not-transcript-holds g c =
+pub returns-then-not-product-holds : need.returns-then-not-product-holds
+returns-then-not-product-holds g c =
     let G = g .G·Group .operations in
     let point = g .G·Group .point in
     let value = g .Exponent·Exponent .value in
@@ -25,14 +25,12 @@ returns-then-not-transcript-holds g c =
     let w = equivalence-meaning point (g .Exponent·Exponent .number) (c .args .witness) in
     let read = c .in-Some .ensures tt in
     let same : equivalence-meaning point value (c .in-Some .read) ≡ w = ap (equivalence-meaning point (λ n. n)) (read .1) in
-    let holds : equivalence-accepted G k w ≡ c .transcript-holds .result =
-    ap (equivalence-accepted G k) (sym same)
-    ∙ ap₂ (λ old new. transcript-accepted G (k .key) old new (value (c .in-Some .read .z)) (transcript-meaning point value (c .in-Some .read .answered))) (sym (c .multiply-old .ensures .is)) (sym (c .multiply-new .ensures .is))
-    ∙ sym (c .transcript-holds .ensures) in
+    let holds : product-accepted G k (w .z) (w .answered) ≡ c .product-holds .result =
+    ap (λ w. product-accepted G k (w .z) (w .answered)) (sym same) ∙ sym (c .product-holds .ensures) in
     ap (at-place (c .args .place)) (unaccepted _ _ _ _ (read .0)
     (λ e. c .if-first-second .left (ap (λ w. w .answered .first .challenge) (read .1) ∙ e ∙ sym (ap (λ w. w .answered .second .challenge) (read .1))))
-    (holds ∙ c .if-not-transcript-holds .taken))
-    ∙ ap Some (sym (c .at-then-not-transcript-holds .ensures))
+    (holds ∙ c .if-not-product-holds .taken))
+    ∙ ap Some (sym (c .at-then-not-product-holds .ensures))
 
 pub returns : need.returns
 returns g c =
@@ -44,12 +42,10 @@ returns g c =
     let w = equivalence-meaning point (g .Exponent·Exponent .number) (c .args .witness) in
     let read = c .in-Some .ensures tt in
     let same : equivalence-meaning point value (c .in-Some .read) ≡ w = ap (equivalence-meaning point (λ n. n)) (read .1) in
-    let holds : equivalence-accepted G k w ≡ c .transcript-holds .result =
-    ap (equivalence-accepted G k) (sym same)
-    ∙ ap₂ (λ old new. transcript-accepted G (k .key) old new (value (c .in-Some .read .z)) (transcript-meaning point value (c .in-Some .read .answered))) (sym (c .multiply-old .ensures .is)) (sym (c .multiply-new .ensures .is))
-    ∙ sym (c .transcript-holds .ensures) in (
+    let holds : product-accepted G k (w .z) (w .answered) ≡ c .product-holds .result =
+    ap (λ w. product-accepted G k (w .z) (w .answered)) (sym same) ∙ sym (c .product-holds .ensures) in (
       nothing-refused _ _ _ _ (read .0)
           (λ e. c .if-first-second .left (ap (λ w. w .answered .first .challenge) (read .1) ∙ e ∙ sym (ap (λ w. w .answered .second .challenge) (read .1))))
-          (holds ∙ c .if-not-transcript-holds .left),
+          (holds ∙ c .if-not-product-holds .left),
       ap (λ γ. record { z = value (c .in-Some .read .z); gamma = γ }) (c .gamma-of .ensures) ∙ ap (equivalence-sample E) same,
     )
