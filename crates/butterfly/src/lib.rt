@@ -1,3 +1,5 @@
+#![tactic(auto)]
+
 ghost use Rattle.std.specs.Prelude.{◌≡◌, ℕ, ◌+◌, ◌-◌, ◌*◌, ◌/◌, ◌^◌, ◌<◌, ◌≤◌, List, map, length, replicate, MatchResult};
 ghost use Rattle.std.specs.Option.{option_map};
 ghost use Rattle.plan.specs.Plans.{nth, at, source, Inverse, Within, Routed};

@@ -1,3 +1,5 @@
+#![tactic(auto)]
+
 ghost use Rattle.std.specs.Prelude.{◌≡◌, ℕ, ◌+◌, ◌-◌, ◌*◌, ◌/◌, ◌<◌, ◌≤◌, List, map, length, MatchResult};
 ghost use Rattle.std.specs.List.{range_with_len};
 ghost use Rattle.plan.specs.Plans.{nth, at, on, crossed, Routed};

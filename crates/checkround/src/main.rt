@@ -1,4 +1,6 @@
 // Checks a round file, of standard input or of the file that is named, and prints a line a record.
+#![tactic(auto)]
+
 #[cfg(test)]
 mod tests;
 

@@ -1,4 +1,6 @@
 // Lent memory that ends as zeros: posting buffers, secret words, working places.
+#![tactic(auto)]
+
 ghost use Rattle.std.specs.Prelude.{◌≡◌};
 ghost use Rattle.clearing.specs.Zeros.{zeros};
 

@@ -1,4 +1,6 @@
 // Drills comparators, one to a line of standard input: GROUP X KIND R1 R2 SEED.
+#![tactic(auto)]
+
 mod making;
 
 use drill::finding::{Finding, Reencryption};

@@ -167,7 +167,7 @@ fn branch_gamma<X: Exponent>(task: Task, z: X) -> X
 
 // Two ciphertexts that follow from the seed.
 fn make_inputs<G: Group>(g: &G, key: G::Element, seed: u64) -> Pair<G::Element>
-    ensures { pair_meaning G.Group.point result ≡ made_inputs G.Group.operations Exponent-as-Exponent.exponents (G.Group.point key) seed }
+    ensures { pair_meaning G.Group.point result ≡ made_inputs G.Group.operations G.Exponent.Exponent.exponents (G.Group.point key) seed }
 {
     let m1 = g.raise_word(g.generator(), seed);
     let m2 = g.raise_word(g.generator(), word_of(seed, 2));
@@ -219,7 +219,7 @@ fn make_outputs<G: Group>(
 }
 
 fn make_comparison<G: Group>(g: &G, task: Task) -> Comparison<G::Element>
-    ensures { comparison_meaning G.Group.point result ≡ made_comparison G.Group.operations Exponent-as-Exponent.exponents task }
+    ensures { comparison_meaning G.Group.point result ≡ made_comparison G.Group.operations G.Exponent.Exponent.exponents task }
 {
     let Secrets { private, r1, r2 } = read_secrets::<G::Exponent>(task);
     let key = g.raise(g.generator(), private);

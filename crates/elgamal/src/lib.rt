@@ -1,4 +1,6 @@
 // ElGamal ciphertexts over any lawful group: one text for all of them.
+#![tactic(auto)]
+
 ghost use Rattle.std.specs.Prelude.{◌≡◌, MatchResult, ◌≢◌};
 ghost use Rattle.refusal.specs.Table.{refused_at};
 ghost use Rattle.refusal.specs.declared.Reason.TheVariants.{KeyIsOne};

@@ -1,4 +1,6 @@
 // Worked examples of every layer, as one theorem about its definitions.
+#![tactic(auto)]
+
 ghost use Rattle.examples.specs.Examples.{Examples};
 
 // The examples hold.

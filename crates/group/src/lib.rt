@@ -1,3 +1,5 @@
+#![tactic(auto)]
+
 ghost use Rattle.std.specs.Prelude.{◌≡◌, ℕ, ◌^◌, ◌<◌, ◌≤◌, Bool, true, cond, length, MatchOption, ◌==◌, ◌≢◌};
 ghost use Rattle.group.specs.Codes.{Written};
 ghost use Rattle.group.specs.Exponents.{Exponents, ExponentLaws, remainder, lowest_bits, sum, difference, product};

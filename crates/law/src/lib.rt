@@ -1,4 +1,6 @@
 // The law of a round, over any calls on its board.
+#![tactic(auto)]
+
 ghost use Rattle.std.specs.Prelude.{◌≡◌};
 ghost use Rattle.board.specs.Calls.{terms};
 ghost use Rattle.board.specs.Rounds.{standing_of};
@@ -22,7 +24,7 @@ pub fn judge_round<G: Group, P: Plan, S: Source>(
     source: &S,
 ) -> Standing
     ensures standing { result ≡ standing_of (view board.now) }
-    ensures law { Law (terms G.Group.operations Exponent-as-Exponent.exponents (S.Source.words source.now) (G.Group.point board.now.key) (P.Plan.listing plan.now)) (P.Plan.width plan.now) (state_map (meaning G.Group.point) (view board.now)) }
+    ensures law { Law (terms G.Group.operations G.Exponent.Exponent.exponents (S.Source.words source.now) (G.Group.point board.now.key) (P.Plan.listing plan.now)) (P.Plan.width plan.now) (state_map (meaning G.Group.point) (view board.now)) }
     ensures met { HonestRound }
 {
     // That the group's order is its exponents' is part of why the law holds; no number is needed.

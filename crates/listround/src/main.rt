@@ -1,3 +1,5 @@
+#![tactic(auto)]
+
 mod line;
 
 use line::line;

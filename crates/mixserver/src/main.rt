@@ -1,5 +1,7 @@
 // Serves a server's turn on a round file. Standard input has a line with the permutation, a slash and the secret
 // words, and the file behind it; standard output gets the file with the turn's records.
+#![tactic(auto)]
+
 ghost use Rattle.std.specs.Prelude.{◌<◌, length, MatchOption};
 
 use anyhow::anyhow;

@@ -1,3 +1,5 @@
+#![tactic(auto)]
+
 ghost use Rattle.std.specs.Prelude.{◌≡◌, ℕ, ◌<◌, ◌≤◌, true, List, length, is_ok, Decides, MatchOption, MatchResult, slice_index_or};
 ghost use Rattle.plan.specs.declared.Comparator.{Comparator};
 ghost use Rattle.plan.specs.Plans.{setting_number, applied, run, nth, at, Lawful, Permutation, Inverse, Tabled, Misread, Routed, Ran, Brings, came_from};

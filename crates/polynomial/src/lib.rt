@@ -1,4 +1,6 @@
 // Group 2: the polynomials in t over bits but 0, modulo t^13 + t^4 + t^3 + t + 1, from the generator t.
+#![tactic(auto)]
+
 ghost use Rattle.std.specs.Prelude.{◌≡◌, ℕ, ◌<◌, T, Some, decimal, MatchOption, bit_xor};
 ghost use Rattle.polynomial.specs.Laws.{polynomial_laws};
 ghost use Rattle.polynomial.specs.Polynomials.{nonzero, Nonzero, polynomials};

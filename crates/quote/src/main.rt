@@ -1,4 +1,6 @@
 // Seals quotes, one to a line of standard input, re-encrypts them, and opens them again.
+#![tactic(auto)]
+
 mod sealing;
 
 use modular::modulo23::RESIDUES_MODULO_23;

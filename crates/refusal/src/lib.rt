@@ -1,3 +1,5 @@
+#![tactic(auto)]
+
 ghost use Rattle.std.specs.Prelude.{◌≡◌, ℕ, Some};
 ghost use Rattle.refusal.specs.Table.{number_of, station_of, refused_at};
 ghost use Rattle.refusal.specs.Text.{station_text, refusal_text};

@@ -1,4 +1,6 @@
 // The check of a whole round file: its records are run on a board, one after the other.
+#![tactic(auto)]
+
 mod events;
 pub mod file;
 pub mod kinds;

@@ -1,3 +1,5 @@
+#![tactic(auto)]
+
 pub mod kind;
 mod number;
 pub mod parts;

@@ -1,3 +1,5 @@
+#![tactic(auto)]
+
 use anyhow::anyhow;
 use butterfly::Butterfly;
 use plan::{Plan, Setting};

@@ -1,5 +1,7 @@
 // Serves an honest server's turn on a fresh board, a round to a line of standard input: GROUP PLAN PRIVATE SEED ENTRY..
 // Quote j carries the generator's power by SEED + j. What stands on the wires afterwards is opened and printed.
+#![tactic(auto)]
+
 mod turn;
 
 use anyhow::anyhow;

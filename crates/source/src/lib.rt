@@ -1,4 +1,6 @@
 // Challenge sources: tapes, joined sources, and how z and c come from a drawn word.
+#![tactic(auto)]
+
 ghost use Rattle.std.specs.Prelude.{◌≡◌, ℕ, ◌<◌, ◌≤◌, MatchOption};
 ghost use Rattle.source.specs.Words.{Words, tape, joined, Drawn, z_of, c_of};
 

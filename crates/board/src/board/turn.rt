@@ -41,7 +41,7 @@ fn serve_step<G: Group, P: Plan, S: Source>(
     requires reach { 4 * (length (P.Plan.listing plan.now) * (board.old.server - 1) + board.old.next) + 3 < (S.Source.words source.now).reach }
     ensures made { is_ok result ≡ true }
     ensures key { board.new.key ≡ board.old.key }
-    ensures state { state_map (meaning G.Group.point) (view board.new) ≡ after_step (terms G.Group.operations Exponent-as-Exponent.exponents (S.Source.words source.now) (G.Group.point board.old.key) (P.Plan.listing plan.now)) (state_map (meaning G.Group.point) (view board.old)) (honest_step (terms G.Group.operations Exponent-as-Exponent.exponents (S.Source.words source.now) (G.Group.point board.old.key) (P.Plan.listing plan.now)) (state_map (meaning G.Group.point) (view board.old)) on setting words) (Some on) }
+    ensures state { state_map (meaning G.Group.point) (view board.new) ≡ after_step (terms G.Group.operations G.Exponent.Exponent.exponents (S.Source.words source.now) (G.Group.point board.old.key) (P.Plan.listing plan.now)) (state_map (meaning G.Group.point) (view board.old)) (honest_step (terms G.Group.operations G.Exponent.Exponent.exponents (S.Source.words source.now) (G.Group.point board.old.key) (P.Plan.listing plan.now)) (state_map (meaning G.Group.point) (view board.old)) on setting words) (Some on) }
 {
     let next = board.next;
     let count = plan.count();
@@ -89,7 +89,7 @@ fn serve_steps<G: Group, P: Plan, S: Source>(
     requires reach { 4 * (length (P.Plan.listing plan.now) * board.old.server) ≤ (S.Source.words source.now).reach }
     ensures made { is_ok result ≡ true }
     ensures key { board.new.key ≡ board.old.key }
-    ensures state { state_map (meaning G.Group.point) (view board.new) ≡ turned (terms G.Group.operations Exponent-as-Exponent.exponents (S.Source.words source.now) (G.Group.point board.old.key) (P.Plan.listing plan.now)) (P.Plan.listing plan.now) settings.now words.now (state_map (meaning G.Group.point) (view board.old)) }
+    ensures state { state_map (meaning G.Group.point) (view board.new) ≡ turned (terms G.Group.operations G.Exponent.Exponent.exponents (S.Source.words source.now) (G.Group.point board.old.key) (P.Plan.listing plan.now)) (P.Plan.listing plan.now) settings.now words.now (state_map (meaning G.Group.point) (view board.old)) }
 {
     for k in 0..settings.len() {
         let Some(on) = plan.comparator(k) else {
@@ -150,7 +150,7 @@ pub fn serve<G: Group, P: Plan, S: Source>(
     words: &mut [u64],
     buffer: &mut [u8],
 ) -> Result<usize, Refusal>
-    ensures serves { (steps : List (Message G.Group.Point ℕ)) × Serves (terms G.Group.operations Exponent-as-Exponent.exponents (S.Source.words source.now) (G.Group.point board.old.key) (P.Plan.listing plan.now)) (P.Plan.width plan.now) (state_map (meaning G.Group.point) (view board.old)) permutation.now (length settings.old) words.old (length buffer.old) steps result (state_map (meaning G.Group.point) (view board.new)) }
+    ensures serves { (steps : List (Message G.Group.Point ℕ)) × Serves (terms G.Group.operations G.Exponent.Exponent.exponents (S.Source.words source.now) (G.Group.point board.old.key) (P.Plan.listing plan.now)) (P.Plan.width plan.now) (state_map (meaning G.Group.point) (view board.old)) permutation.now (length settings.old) words.old (length buffer.old) steps result (state_map (meaning G.Group.point) (view board.new)) }
     ensures key { board.new.key ≡ board.old.key }
     ensures places_cleared { settings.new ≡ zeros Straight settings.old }
     ensures words_cleared { words.new ≡ zeros 0 words.old }

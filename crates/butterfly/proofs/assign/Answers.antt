@@ -7,7 +7,7 @@ use Rattle.butterfly.proofs.assign.Goals as goal
 pub loop-j-preserved : goal.loop-j-preserved
 loop-j-preserved c = (
   simp length-set c.loop-j.invariant.0,
-  assign_more c.args.table.now c.loop-j.j c.args.pairs c.loop-j.halves _ _ _ c.loop-j-test.true c.first-half-half.ensures c.other.ensures c.loop-j.invariant.1,
+  assign_more c.args.table.now c.loop-j.j c.args.pairs c.loop-j.halves _ _ _ c.loop-j-test.true c.first_half-half.ensures c.other.ensures c.loop-j.invariant.1,
 )
 
 pub returns : goal.returns

@@ -9,4 +9,4 @@ pub loop-i-preserved : goal.loop-i-preserved
 loop-i-preserved c =
     let f = half_of (at c.args.entries.now) (sides c.args.halves.now) (side c.args.half) in
     let l = c.loop-i.invariant.0 in
-    (simp length-set l, rw c.member-of.ensures (fill_by_more f c.loop-i.table c.loop-i.i 0 (omega arith) c.loop-i.invariant.1))
+    (simp length-set l, rw c.member_of.ensures (fill_by_more f c.loop-i.table c.loop-i.i 0 (omega arith) c.loop-i.invariant.1))

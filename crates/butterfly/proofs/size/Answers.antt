@@ -3,8 +3,8 @@ use Rattle.butterfly.specs.Network.{network_count}
 use Rattle.butterfly.specs.Placing.{sizes, laid_out, butterfly_is}
 use Rattle.butterfly.proofs.size.Goals as goal
 
-pub overflow-sub-result : goal.overflow-sub-result
-overflow-sub-result c =
+pub overflow_sub-result : goal.overflow_sub-result
+overflow_sub-result c =
     let n = network_count c.args.levels in
     let e = ap (λ w. c.args.levels * w) c.width-wires.ensures.value in
     omega arith

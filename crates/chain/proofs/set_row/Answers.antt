@@ -7,7 +7,7 @@ use Rattle.chain.proofs.set_row.Goals as goal
 
 pub loop-i-preserved : goal.loop-i-preserved
 loop-i-preserved c =
-    rw c.setting-with.ensures
+    rw c.setting_with.ensures
     (fill_by_more (λ k. row_setting c.args.from (c.args.first + 1 + k)) c.loop-i.row c.loop-i.i Straight (omega arith) c.loop-i.invariant)
 
 pub returns : goal.returns

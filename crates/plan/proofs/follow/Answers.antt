@@ -21,17 +21,17 @@ loop-k-init g c =
 pub loop-k-preserved-in-Some : goal.loop-k-preserved-in-Some
 loop-k-preserved-in-Some g c = (
   back_wire _ c.args.settings.now c.args.wire c.loop-k.k c.loop-k.start _ c.in-Some.comparator _ c.loop-k-test.true (sym c.in-Some.ensures) (omega arith)
-      c.loop-k.invariant.0 c.came-from-start.ensures,
+      c.loop-k.invariant.0 c.came_from-start.ensures,
   back_sum _ c.args.settings.now c.args.words.now c.args.wire c.loop-k.k c.loop-k.start c.loop-k.sum _ c.in-Some.comparator Straight _ c.loop-k-test.true
-      (sym c.in-Some.ensures) (omega arith) (omega arith) c.loop-k.invariant.0 c.loop-k.invariant.1 c.word-taken.ensures,
+      (sym c.in-Some.ensures) (omega arith) (omega arith) c.loop-k.invariant.0 c.loop-k.invariant.1 c.word_taken.ensures,
   omega arith,
 )
 
 pub loop-k-preserved : goal.loop-k-preserved
-loop-k-preserved g c = absurd (let n = nth_none (g.P.Plan.listing c.args.plan.now) (c.loop-k.k - 1) (sym c.in-default.ensures) in omega arith)
+loop-k-preserved g c = absurd (let n = nth_none (g.P.Plan.listing c.args.plan.now) (c.loop-k.k - 1) (sym c.in_default.ensures) in omega arith)
 
-pub offset-bounds-items-start : goal.offset-bounds-items-start
-offset-bounds-items-start g c =
+pub offset_bounds-items-start : goal.offset_bounds-items-start
+offset_bounds-items-start g c =
     let w = (g.met.P.Plan.lawful c.args.plan.now).within in
     let b = back_all _ c.args.settings.now c.args.words.now c.args.wire c.loop-k.k c.loop-k.start c.loop-k.sum c.loop-k-test.false c.loop-k.invariant.0 c.loop-k.invariant.1 in
     let l = source_below _ _ c.args.settings.now c.args.wire w in

@@ -7,7 +7,7 @@ loop-x-init c = marked_none (length c.args.permutation.now) c.args.permutation.n
 
 pub loop-x-preserved : goal.loop-x-preserved
 loop-x-preserved c =
-    let d = c.is-new.ensures.0 c.if-not-is-new.false in
+    let d = c.is_new.ensures.0 c.if-not-is_new.false in
     marked_more c.loop-x.x _ c.args.permutation.now c.loop-x.inverse (omega arith) (omega arith) d.0 d.1 c.loop-x.invariant
 
 pub returns : goal.returns

@@ -1,7 +1,7 @@
 use Rattle.std.proofs.Common.{◌≡◌, get_or, sym, refl, ap, ◌∙◌, arith}
 use Rattle.plan.proofs.Running.{nth_within, run_more, run_all, nth_none, moved}
 use Rattle.plan.proofs.run_plan.Goals as goal
-use Rattle.plan.proofs.run_plan.Goals.{in-Some, in-default}
+use Rattle.plan.proofs.run_plan.Goals.{in-Some, in_default}
 
 pub apply-requires : goal.apply-requires
 apply-requires g c =
@@ -12,7 +12,7 @@ pub loop-k-preserved : goal.loop-k-preserved
 loop-k-preserved g c =
     elim c.match-comparator.branch [
       | in-Some w ↦ run_more _ c.args.settings.now _ _ _ c.loop-k.k _ _ (sym w.in-Some.ensures) c.loop-k-test.true (w.items-is ∙ w.apply.ensures) c.loop-k.invariant
-      | in-default w ↦ absurd (let n = nth_none (g.P.Plan.listing c.args.plan.now) c.loop-k.k (sym w.in-default.ensures) in omega arith)
+      | in_default w ↦ absurd (let n = nth_none (g.P.Plan.listing c.args.plan.now) c.loop-k.k (sym w.in_default.ensures) in omega arith)
     ]
 
 pub returns : goal.returns

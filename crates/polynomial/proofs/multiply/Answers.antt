@@ -19,8 +19,8 @@ none_left s x y t i h was =
     let e : 0 ≡ 13 - i = omega arith in
     sym (xor_zero_r s) ∙ ap (λ (n : ℕ). bit_xor s (product n x y)) e ∙ was
 
-pub overflow-mul-sum : goal.overflow-mul-sum
-overflow-mul-sum c =
+pub overflow_mul-sum : goal.overflow_mul-sum
+overflow_mul-sum c =
     let h : c.loop-turn.shifted * (c.loop-turn.bits % 2) < 8192 = bit_below c.loop-turn.shifted (c.loop-turn.bits % 2) (bit c.loop-turn.bits) c.loop-turn.invariant.0 in
     record { fits = omega arith }
 
@@ -32,7 +32,7 @@ loop-turn-preserved c =
     let i = c.loop-turn.turn in
     let t = product 13 c.args.a c.args.b in
     let P : ℕ → Type 0 = λ v. (v < 8192) × (bit_xor (bit_xor s (x * (y % 2))) (product (13 - (i + 1)) v (y / 2)) ≡ t) in
-    subst P (sym c.multiply-by-t-shifted.ensures) (times_t_below x c.loop-turn.invariant.0, turn s x y t i (omega arith) c.loop-turn.invariant.1)
+    subst P (sym c.multiply_by_t-shifted.ensures) (times_t_below x c.loop-turn.invariant.0, turn s x y t i (omega arith) c.loop-turn.invariant.1)
 
 pub returns : goal.returns
 returns c =

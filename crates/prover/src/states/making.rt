@@ -206,8 +206,8 @@ fn draw_challenges<G: Group, S: Source>(
     place: usize,
 ) -> Result<Challenges, Refusal>
     ensures { Outcome (unready G.Group.operations (S.Source.words source.now) question (length buffer.old)) place
-        (λ c. (c.equivalence ≡ equivalence_challenge G.Group.operations Exponent-as-Exponent.exponents (S.Source.words source.now) (comparison_meaning G.Group.point comparison) (G.Group.point w) question)
-        × (c.disjunction ≡ disjunction_challenge G.Group.operations Exponent-as-Exponent.exponents (S.Source.words source.now) (comparison_meaning G.Group.point comparison) (G.Group.point w1) (G.Group.point w2) question)) result }
+        (λ c. (c.equivalence ≡ equivalence_challenge G.Group.operations G.Exponent.Exponent.exponents (S.Source.words source.now) (comparison_meaning G.Group.point comparison) (G.Group.point w) question)
+        × (c.disjunction ≡ disjunction_challenge G.Group.operations G.Exponent.Exponent.exponents (S.Source.words source.now) (comparison_meaning G.Group.point comparison) (G.Group.point w1) (G.Group.point w2) question)) result }
 {
     if buffer.len() < 11 * g.code_width() {
         return Err(Reason::UnfitLength.at(place));

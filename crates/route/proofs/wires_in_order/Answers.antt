@@ -6,6 +6,6 @@ use Rattle.route.proofs.wires_in_order.Goals as goal
 
 pub loop-wire-preserved : goal.loop-wire-preserved
 loop-wire-preserved c =
-    c.in-ok-push.ensures.items
+    c.in_ok-push.ensures.items
     ∙ ap (λ xs. xs ++ c.loop-wire.wire ∷ []) (c.loop-wire.invariant ∙ sym (map-id (range_with_len 0 c.loop-wire.wire)))
     ∙ sym (map-range_with_len_more (λ x. x) 0 c.loop-wire.wire c.loop-wire.wire (omega arith)) ∙ map-id _

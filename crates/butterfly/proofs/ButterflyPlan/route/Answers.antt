@@ -4,9 +4,9 @@ use Rattle.butterfly.specs.Placing.{butterfly_is}
 use Rattle.butterfly.proofs.Routing.{inverse_like, routed}
 use Rattle.butterfly.proofs.ButterflyPlan.route.Goals as goal
 
-pub route-over-requires : goal.route-over-requires
-route-over-requires c =
-    let s = c.in-ok-shuffle.ensures in
+pub route_over-requires : goal.route_over-requires
+route_over-requires c =
+    let s = c.in_ok-shuffle.ensures in
     let n = ap length (butterfly_is c.args.self.now.levels) in
     record {
       few = c.args.self.now.fits.1;
@@ -17,4 +17,4 @@ route-over-requires c =
 pub returns : goal.returns
 returns c =
     routed c.args.self.now.levels c.width-wires.result c.args.permutation.now _ _ c.args.settings.now _ c.width-wires.ensures.value c.args.self.now.fits.0 c.args.self.now.fits.1
-    c.in-ok-shuffle.ensures (c.if-settings-count.false ∙ c.count.ensures) c.route-over.ensures.routed
+    c.in_ok-shuffle.ensures (c.if-settings-count.false ∙ c.count.ensures) c.route_over.ensures.routed

@@ -11,6 +11,6 @@ returns g c =
     let value = g.X.Exponent.value in
     let s = samples_meaning value c.args.samples in
     c.multiply.ensures
-    ∙ ap₂ (product E) (c.subtract.ensures ∙ ap₂ (difference E) c.from-word.ensures c.second-difference-top.ensures)
-    (c.invert.ensures ∙ ap E.inverse (c.second-difference-bottom.ensures
+    ∙ ap₂ (product E) (c.subtract.ensures ∙ ap₂ (difference E) c.from_word.ensures c.second_difference-top.ensures)
+    (c.invert.ensures ∙ ap E.inverse (c.second_difference-bottom.ensures
     ∙ ap₂ (λ a b. second E s a b (value c.multiply-f3.result)) c.multiply-f1.ensures c.multiply-f2.ensures ∙ ap (second E s _ _) c.multiply-f3.ensures))

@@ -9,10 +9,10 @@ use Rattle.drill.specs.Rule.{Found}
 use Rattle.drill.proofs.Soundness.{found, drilled_shown}
 use Rattle.drill.proofs.drilling.drill.Goals as goal
 
-pub returns-in-err-examination : goal.returns-in-err-examination
-returns-in-err-examination g c =
-    let p = err_from_is_err_and c.from-residual.result c.from-residual.ensures.1 in
-    rw (p.1, p.2) (record { drilled = c.in-err-examination.ensures; shown = tt })
+pub returns-in_err-examination : goal.returns-in_err-examination
+returns-in_err-examination g c =
+    let p = err_from_is_err_and c.from_residual.result c.from_residual.ensures.1 in
+    rw (p.1, p.2) (record { drilled = c.in_err-examination.ensures; shown = tt })
 
 pub returns : goal.returns
 returns g c =
@@ -24,8 +24,8 @@ returns g c =
     let k = comparison_meaning point c.args.comparison in
     let W = map (equivalence_meaning point number) c.args.equivalence.now in
     let V = map (disjunctive_meaning point number) c.args.disjunction.now in
-    let examined = c.in-ok-examination.ensures in
-    let same = c.order.ensures.same-order in
+    let examined = c.in_ok-examination.ensures in
+    let same = c.order.ensures.same_order in
     let is : finding_meaning g.Exponent.Exponent.value c.find.result ≡ computed E (examination E W V) = c.find.ensures ∙ ap (computed E) examined.1 in
     let all = subst (Found E (examination E W V)) (sym is) (found laws g.Exponent.Exponent.laws same k W V examined.0) in
     record {

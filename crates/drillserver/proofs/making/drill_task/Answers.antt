@@ -12,5 +12,5 @@ returns g c =
     let drilled : DrilledAsMade G E c.args.task Answered = search rules in
     record {
       drilled = drilled;
-      honest = honestly_answered g.G.Group.laws g.Exponent.Exponent.laws c.order.ensures.same-order c.args.task Answered drilled;
+      honest = honestly_answered g.G.Group.laws g.Exponent.Exponent.laws c.order.ensures.same_order c.args.task Answered drilled;
     }

@@ -5,16 +5,16 @@ use Rattle.drillserver.proofs.Made.{one_more_made}
 use Rattle.drillserver.specs.Answering.{each_below, made_equivalence_witness}
 use Rattle.drillserver.proofs.making.make_equivalence_witnesses.Goals as goal
 
-pub returns-in-err-push : goal.returns-in-err-push
-returns-in-err-push g c =
-    let e = err_from_is_err_and c.from-residual.result c.from-residual.ensures.1 in
+pub returns-in_err-push : goal.returns-in_err-push
+returns-in_err-push g c =
+    let e = err_from_is_err_and c.from_residual.result c.from_residual.ensures.1 in
     rw e.1 tt
 
 pub loop-j-preserved : goal.loop-j-preserved
 loop-j-preserved g c =
     one_more_made (equivalence_meaning g.G.Group.point g.Exponent.Exponent.number) (made_equivalence_witness g.G.Group.operations g.Exponent.Exponent.exponents (g.G.Group.point c.args.key) c.args.task) c.loop-j.j
-    (vec_items c.loop-j.witnesses) (vec_items c.push.new.self) c.make-equivalence-witness.result
-    c.in-ok-push.ensures.items c.loop-j.invariant c.make-equivalence-witness.ensures
+    (vec_items c.loop-j.witnesses) (vec_items c.push.new.self) c.make_equivalence_witness.result
+    c.in_ok-push.ensures.items c.loop-j.invariant c.make_equivalence_witness.ensures
 
 pub returns : goal.returns
 returns g c =

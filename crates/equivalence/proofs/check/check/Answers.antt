@@ -12,15 +12,15 @@ returns g c =
     let S = g.S.Source.words c.args.source.now in
     let k = comparison_meaning g.G.Group.point c.args.comparison in
     let p = proofs_meaning g.G.Group.point g.Exponent.Exponent.number c.args.proofs in
-    let within = c.check-within.ensures in
+    let within = c.check_within.ensures in
     let judged = judge g.G.Group.operations E S k p c.args.first in
-    let width = c.code-width.ensures in
+    let width = c.code_width.ensures in
     let fits : buffer_fits g.G.Group.operations (length c.args.buffer.now) ≡ true = le-leb (11 * g.G.Group.operations.width) (length c.args.buffer.now) (omega arith) in
     record {
       verdict = rw fits within;
       exact = (
-        (λ ok. judged_holds laws E S k p c.args.first (answered_ok judged c.args.place c.check-within.result within ok)),
-        (λ _ holds. ok_answered judged c.args.place c.check-within.result within (holds_judged laws E S k p c.args.first holds)),
+        (λ ok. judged_holds laws E S k p c.args.first (answered_ok judged c.args.place c.check_within.result within ok)),
+        (λ _ holds. ok_answered judged c.args.place c.check_within.result within (holds_judged laws E S k p c.args.first holds)),
       );
       cleared = search rules;
     }

@@ -5,14 +5,14 @@ use Rattle.equivalence.specs.Drawing.{draws_meaning}
 use Rattle.equivalence.specs.Judgement.{proofs_meaning}
 use Rattle.equivalence.proofs.check.check_equations.Goals as goal
 
-pub returns-then-not-equivalence-holds : goal.returns-then-not-equivalence-holds
-returns-then-not-equivalence-holds g c =
+pub returns-then-not-equivalence_holds : goal.returns-then-not-equivalence_holds
+returns-then-not-equivalence_holds g c =
     let G = g.G.Group.operations in
     let k = comparison_meaning g.G.Group.point c.args.comparison in
     let p = proofs_meaning g.G.Group.point g.Exponent.Exponent.value c.args.proofs in
     let d = draws_meaning g.Exponent.Exponent.value c.args.draws in
     product_fails _ G k p d c.args.place _
-    (sym c.equivalence-holds.ensures ∙ c.if-not-equivalence-holds.true)
+    (sym c.equivalence_holds.ensures ∙ c.if-not-equivalence_holds.true)
     c.at.ensures
 
 pub returns-then-first-second : goal.returns-then-first-second
@@ -22,34 +22,34 @@ returns-then-first-second g c =
     let p = proofs_meaning g.G.Group.point g.Exponent.Exponent.value c.args.proofs in
     let d = draws_meaning g.Exponent.Exponent.value c.args.draws in
     split_fails _ G k p d c.args.place _
-    (sym c.equivalence-holds.ensures ∙ c.if-not-equivalence-holds.false)
+    (sym c.equivalence_holds.ensures ∙ c.if-not-equivalence_holds.false)
     (ne_eqb _ _ c.if-first-second.true)
     c.at-then-first-second.ensures
 
-pub returns-then-not-branch-holds : goal.returns-then-not-branch-holds
-returns-then-not-branch-holds g c =
+pub returns-then-not-branch_holds : goal.returns-then-not-branch_holds
+returns-then-not-branch_holds g c =
     let G = g.G.Group.operations in
     let k = comparison_meaning g.G.Group.point c.args.comparison in
     let p = proofs_meaning g.G.Group.point g.Exponent.Exponent.value c.args.proofs in
     let d = draws_meaning g.Exponent.Exponent.value c.args.draws in
     first_fails _ G k p d c.args.place _
-    (sym c.equivalence-holds.ensures ∙ c.if-not-equivalence-holds.false)
+    (sym c.equivalence_holds.ensures ∙ c.if-not-equivalence_holds.false)
     (eq-eqb _ _ c.if-first-second.false)
-    (first_at G k p d (g.G.Group.point c.fold-key-folded.result) c.branch-holds.result c.fold-key-folded.ensures c.branch-holds.ensures ∙ c.if-not-branch-holds.true)
-    c.at-then-not-branch-holds.ensures
+    (first_at G k p d (g.G.Group.point c.fold_key-folded.result) c.branch_holds.result c.fold_key-folded.ensures c.branch_holds.ensures ∙ c.if-not-branch_holds.true)
+    c.at-then-not-branch_holds.ensures
 
-pub returns-then-not-branch-holds-2 : goal.returns-then-not-branch-holds-2
-returns-then-not-branch-holds-2 g c =
+pub returns-then-not-branch_holds-2 : goal.returns-then-not-branch_holds-2
+returns-then-not-branch_holds-2 g c =
     let G = g.G.Group.operations in
     let k = comparison_meaning g.G.Group.point c.args.comparison in
     let p = proofs_meaning g.G.Group.point g.Exponent.Exponent.value c.args.proofs in
     let d = draws_meaning g.Exponent.Exponent.value c.args.draws in
     second_fails _ G k p d c.args.place _
-    (sym c.equivalence-holds.ensures ∙ c.if-not-equivalence-holds.false)
+    (sym c.equivalence_holds.ensures ∙ c.if-not-equivalence_holds.false)
     (eq-eqb _ _ c.if-first-second.false)
-    (first_at G k p d (g.G.Group.point c.fold-key-folded.result) c.branch-holds.result c.fold-key-folded.ensures c.branch-holds.ensures ∙ c.if-not-branch-holds.false)
-    (second_at G k p d (g.G.Group.point c.fold-key-folded.result) c.branch-holds-2.result c.fold-key-folded.ensures c.branch-holds-2.ensures ∙ c.if-not-branch-holds-2.true)
-    c.at-then-not-branch-holds-2.ensures
+    (first_at G k p d (g.G.Group.point c.fold_key-folded.result) c.branch_holds.result c.fold_key-folded.ensures c.branch_holds.ensures ∙ c.if-not-branch_holds.false)
+    (second_at G k p d (g.G.Group.point c.fold_key-folded.result) c.branch_holds-2.result c.fold_key-folded.ensures c.branch_holds-2.ensures ∙ c.if-not-branch_holds-2.true)
+    c.at-then-not-branch_holds-2.ensures
 
 pub returns : goal.returns
 returns g c =
@@ -58,8 +58,8 @@ returns g c =
     let p = proofs_meaning g.G.Group.point g.Exponent.Exponent.value c.args.proofs in
     let d = draws_meaning g.Exponent.Exponent.value c.args.draws in
     let none = none_fails G k p d
-    (sym c.equivalence-holds.ensures ∙ c.if-not-equivalence-holds.false)
+    (sym c.equivalence_holds.ensures ∙ c.if-not-equivalence_holds.false)
     (eq-eqb _ _ c.if-first-second.false)
-    (first_at G k p d (g.G.Group.point c.fold-key-folded.result) c.branch-holds.result c.fold-key-folded.ensures c.branch-holds.ensures ∙ c.if-not-branch-holds.false)
-    (second_at G k p d (g.G.Group.point c.fold-key-folded.result) c.branch-holds-2.result c.fold-key-folded.ensures c.branch-holds-2.ensures ∙ c.if-not-branch-holds-2.false) in
+    (first_at G k p d (g.G.Group.point c.fold_key-folded.result) c.branch_holds.result c.fold_key-folded.ensures c.branch_holds.ensures ∙ c.if-not-branch_holds.false)
+    (second_at G k p d (g.G.Group.point c.fold_key-folded.result) c.branch_holds-2.result c.fold_key-folded.ensures c.branch_holds-2.ensures ∙ c.if-not-branch_holds-2.false) in
     rw none tt

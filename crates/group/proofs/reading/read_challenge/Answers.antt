@@ -14,4 +14,4 @@ pub returns-else-challenge-posted : goal.returns-else-challenge-posted
 returns-else-challenge-posted g c =
     let differs = c.if-challenge-posted.false in
     let is = c.challenge.ensures in
-    (c.at.ensures, not_below c.args.posted (2 ^ g.E-as-Exponent.exponents.challenge_bits) (λ e. differs (is ∙ e)))
+    (c.at.ensures, not_below c.args.posted (2 ^ g.E.Exponent.exponents.challenge_bits) (λ e. differs (is ∙ e)))

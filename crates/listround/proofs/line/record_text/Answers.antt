@@ -5,5 +5,5 @@ use Rattle.listround.proofs.line.record_text.Goals as goal
 
 pub returns-in-Comparator : goal.returns-in-Comparator
 returns-in-Comparator c =
-    subst (λ held. IfOk c.comparator-text.result (λ text. string_bytes text ≡ record_text (content held))) (sym c.in-Comparator.is)
-    (subst (λ m. IfOk c.comparator-text.result (λ text. string_bytes text ≡ comparator_text m)) c.values-in-Comparator.ensures c.comparator-text.ensures)
+    subst (λ held. IfOk c.comparator_text.result (λ text. string_bytes text ≡ record_text (content held))) (sym c.in-Comparator.is)
+    (subst (λ m. IfOk c.comparator_text.result (λ text. string_bytes text ≡ comparator_text m)) c.values-in-Comparator.ensures c.comparator_text.ensures)

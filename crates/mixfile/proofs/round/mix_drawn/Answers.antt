@@ -17,9 +17,9 @@ pub returns-in-Err : goal.returns-in-Err
 returns-in-Err g c =
     inl (vec_items c.args.lines, ([], sym (append-nil (vec_items c.args.lines)), rw c.in-Err.ensures (refl, refl)))
 
-pub returns-in-Err-next-draws : goal.returns-in-Err-next-draws
-returns-in-Err-next-draws g c =
-    inl (vec_items c.args.lines, ([], sym (append-nil (vec_items c.args.lines)), rw (c.in-Ok.ensures, c.in-Err-next-draws.ensures) (refl, refl)))
+pub returns-in-Err-next_draws : goal.returns-in-Err-next_draws
+returns-in-Err-next_draws g c =
+    inl (vec_items c.args.lines, ([], sym (append-nil (vec_items c.args.lines)), rw (c.in-Ok.ensures, c.in-Err-next_draws.ensures) (refl, refl)))
 
 pub returns : goal.returns
 returns g c =
@@ -30,14 +30,14 @@ returns g c =
     let T = λ (S : Words). terms g.G.Group.operations g.Exponent.Exponent.exponents S (point c.args.board.now.key) cs in
     let s = state_map (meaning point) (view c.args.board.now) in
     let before = vec_items c.args.lines in
-    let q = place c.next-draws-2.new.reader in
-    let first = c.as-slice.ensures.value ∙ c.in-ok-first.ensures in
-    let second = c.as-slice-2.ensures.value ∙ c.in-ok-second.ensures in
+    let q = place c.next_draws-2.new.reader in
+    let first = c.as_slice.ensures.value ∙ c.in_ok-first.ensures in
+    let second = c.as_slice-2.ensures.value ∙ c.in_ok-second.ensures in
     let same = ap₂ (λ (xs ys : List ℕ). joined (tape xs) (tape ys)) first second in
     let Planned : ℕ → List Comparator → Type 0 = λ m ks. (m ≡ n) × (ks ≡ cs) in
     let Ran : List Line → Ending → Type 0 =
-    λ lines ending. (rest : List Line) × (lines ≡ before ++ rest) × Runs (T (joined (tape c.as-slice.result.now) (tape c.as-slice-2.result.now))) number q s rest ending in
+    λ lines ending. (rest : List Line) × (lines ≡ before ++ rest) × Runs (T (joined (tape c.as_slice.result.now) (tape c.as_slice-2.result.now))) number q s rest ending in
     let Checked : List Line → Ending → Type 0 = λ lines ending. (rest : List Line) × (lines ≡ before ++ rest) × ChecksFirst number T s (next_draws (step (place c.args.reader))) rest ending in
     passed_on Ran Checked Planned Planned c.args.turn.file.now c.args.turn.permutation.now (length c.args.words.now)
-    (λ lines ending h. (h.0, h.1, rw (c.in-Ok.ensures, c.in-Ok-next-draws.ensures) (subst (λ (S : Words). Runs (T S) number q s h.0 ending) same h.2)))
-    (λ m ks h. h) vec_items c.mix-records.result c.mix-records.ensures
+    (λ lines ending h. (h.0, h.1, rw (c.in-Ok.ensures, c.in-Ok-next_draws.ensures) (subst (λ (S : Words). Runs (T S) number q s h.0 ending) same h.2)))
+    (λ m ks h. h) vec_items c.mix_records.result c.mix_records.ensures

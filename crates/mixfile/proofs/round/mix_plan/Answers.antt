@@ -31,7 +31,7 @@ returns-in-Ok g c =
     (λ lines ending h. subst (λ (k : Option PlanKind). ChecksPlan G E number k c.args.offset o q lines ending) kind
     (inl (chain o.wires, (fits, refl), subst (λ (n : ℕ). ChecksRound G E number n (chain n) c.args.offset o q lines ending) width h)))
     (λ n cs h. (Chain, sym kind, h.0 ∙ width, (subst (λ (k : ℕ). Fits k) (sym h.0) c.in-Ok.plan.fits, h.1 ∙ ap chain (sym h.0))))
-    vec_items c.mix-round.result c.mix-round.ensures
+    vec_items c.mix_round.result c.mix_round.ensures
 
 pub returns-in-Err : goal.returns-in-Err
 returns-in-Err g c =
@@ -61,7 +61,7 @@ returns-in-Ok-new g c =
     (λ lines ending h. subst (λ (x : Option PlanKind). ChecksPlan G E number x c.args.offset o q lines ending) kind
     (inl (butterfly k, (k, few.0, few.1, width, refl), subst (λ (n : ℕ). ChecksRound G E number n (butterfly k) c.args.offset o q lines ending) width h)))
     (λ n cs h. (Butterfly, sym kind, h.0 ∙ width, (k, few.0, few.1, sym h.0, h.1)))
-    vec_items c.mix-round-in-Ok-new.result c.mix-round-in-Ok-new.ensures
+    vec_items c.mix_round-in-Ok-new.result c.mix_round-in-Ok-new.ensures
 
 pub returns-in-Err-new : goal.returns-in-Err-new
 returns-in-Err-new g c =

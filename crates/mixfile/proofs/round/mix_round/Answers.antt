@@ -20,8 +20,8 @@ returns-in-Err-open g c =
     let G = g.G.Group.operations in
     let n = g.P.Plan.width c.args.plan.now in
     let y = g.G.Group.point c.in-Ok.key in
-    let wires : length c.as-mut-slice.result.now ≡ n = ap length (c.as-mut-slice.ensures.value ∙ c.in-ok-wires.ensures) ∙ length-replicate c.wires.result _ ∙ c.wires.ensures in
-    let start : length c.as-mut-slice-2.result.now ≡ n = ap length (c.as-mut-slice-2.ensures.value ∙ c.in-ok-start.ensures) ∙ length-replicate c.wires-2.result _ ∙ c.wires-2.ensures in
+    let wires : length c.as_mut_slice.result.now ≡ n = ap length (c.as_mut_slice.ensures.value ∙ c.in_ok-wires.ensures) ∙ length-replicate c.wires.result _ ∙ c.wires.ensures in
+    let start : length c.as_mut_slice-2.result.now ≡ n = ap length (c.as_mut_slice-2.ensures.value ∙ c.in_ok-start.ensures) ∙ length-replicate c.wires-2.result _ ∙ c.wires-2.ensures in
     let judged : judge_open G n c.args.opening.servers y n n ≡ Some c.in-Err-open.refusal.reason =
     ap₂ (λ (a b : ℕ). judge_open G n c.args.opening.servers y a b) (sym wires) (sym start) ∙ was_refused _ _ _ _ c.in-Err-open.ensures in
     inl (
@@ -41,18 +41,18 @@ returns g c =
     let y = point c.in-Ok.key in
     let o = c.args.opening in
     let q = place c.args.reader in
-    let wires : length c.as-mut-slice.result.now ≡ n = ap length (c.as-mut-slice.ensures.value ∙ c.in-ok-wires.ensures) ∙ length-replicate c.wires.result _ ∙ c.wires.ensures in
-    let start : length c.as-mut-slice-2.result.now ≡ n = ap length (c.as-mut-slice-2.ensures.value ∙ c.in-ok-start.ensures) ∙ length-replicate c.wires-2.result _ ∙ c.wires-2.ensures in
+    let wires : length c.as_mut_slice.result.now ≡ n = ap length (c.as_mut_slice.ensures.value ∙ c.in_ok-wires.ensures) ∙ length-replicate c.wires.result _ ∙ c.wires.ensures in
+    let start : length c.as_mut_slice-2.result.now ≡ n = ap length (c.as_mut_slice-2.ensures.value ∙ c.in_ok-start.ensures) ∙ length-replicate c.wires-2.result _ ∙ c.wires-2.ensures in
     let told = not_refused _ _ _ _ c.in-Ok-open.ensures in
     let judged : judge_open G n o.servers y n n ≡ None =
     ap₂ (λ (a b : ℕ). judge_open G n o.servers y a b) (sym wires) (sym start) ∙ told.0 in
     let s = state_map (meaning point) (view c.in-Ok-open.board) in
     let before : vec_items c.push.new.self ≡ Round o ∷ [] =
-    c.in-ok-push.ensures.items ∙ ap (λ (xs : List Line). xs ++ Round o ∷ []) c.new-lines.ensures.items in
+    c.in_ok-push.ensures.items ∙ ap (λ (xs : List Line). xs ++ Round o ∷ []) c.new-lines.ensures.items in
     let Planned : ℕ → List Comparator → Type 0 = λ m ks. (m ≡ n) × (ks ≡ cs) in
     let Drawn : g.row.G-Element.Denot → List Line → Ending → Type 0 =
     λ k lines ending. (rest : List Line) × (lines ≡ vec_items c.push.new.self ++ rest) × ChecksFirst number (λ S. terms G E S (point k) cs) s (next_draws (step q)) rest ending in
     passed_on (Drawn c.in-Ok-open.board.key) (ChecksRound G E number n cs c.args.offset o q) Planned Planned c.args.turn.file.now c.args.turn.permutation.now (length c.args.words.now)
     (λ lines ending h. opened_round G E number n cs c.args.offset o q y s (vec_items c.push.new.self) lines ending c.in-Ok.ensures judged told.1.1 before
     (subst (λ (k : g.row.G-Element.Denot). Drawn k lines ending) told.1.0 h))
-    (λ m ks h. h) vec_items c.mix-drawn.result c.mix-drawn.ensures
+    (λ m ks h. h) vec_items c.mix_drawn.result c.mix_drawn.ensures

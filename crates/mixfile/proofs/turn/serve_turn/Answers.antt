@@ -9,11 +9,11 @@ returns-then-len-gt-LONGEST g c =
     let file = c.args.turn.file.now in
     let cs = g.P.Plan.listing c.args.plan.now in
     let bytes = vec_items c.in-Ok.bytes in
-    let added = rw c.in-Ok.is at c.in-ok-added.ensures in
+    let added = rw c.in-Ok.is at c.in_ok-added.ensures in
     let long : 65536 < length bytes = search rules in
     let count : length added.0 ≡ length cs = search rules in
-    let copied : vec_items c.in-ok-bytes.bytes ≡ file = search rules in
+    let copied : vec_items c.in_ok-bytes.bytes ≡ file = search rules in
     let is : bytes ≡ file ++ flat_map comparator_bytes added.0 =
     added.2 ∙ ap (λ (xs : List ℕ). xs ++ flat_map comparator_bytes added.0) copied in
     let total : length bytes ≡ length file + 51 * length added.0 = ap length is ∙ file_length file added.0 in
-    inr (inr (c.in-default.ensures.0, omega (arith, long, total, count), refl))
+    inr (inr (c.in_default.ensures.0, omega (arith, long, total, count), refl))

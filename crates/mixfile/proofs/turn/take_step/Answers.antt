@@ -33,7 +33,7 @@ returns-in-Ok-call g c =
     let s' = state_map (meaning point) (view c.call.new.board) in
     let told = c.in-Ok.ensures in
     let e = Step (message_meaning point number c.in-Ok.message) in
-    let bytes = length c.honest-step.new.buffer in
+    let bytes = length c.honest_step.new.buffer in
     let honest = (not_refused (judge_honest (terms-of b.key) s (length c.args.words.now) (length c.args.buffer.now)) b.next
     (λ (x : Message g.row.G-Element.Denot _). HonestStep (terms-of b.key) s c.args.setting c.args.words.now (message_meaning point number x)) c.in-Ok.message told.outcome).1 in
     let happens = subst (λ (x : Board g.row.G-Element.Denot). Happens (terms-of x.key) (state_map (meaning point) (view x)) e bytes c.call.result s') told.kept c.call.ensures.happens in

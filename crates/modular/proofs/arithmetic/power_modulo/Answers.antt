@@ -14,8 +14,8 @@ loop-left-preserved c =
     let low : (s * s) % m < m = mod-lt (s * s) (omega arith) in
     let P : ℕ → ℕ → Type 0 = λ x y. (x < m) × (y < m) × ((x * y ^ (n / 2)) % m ≡ t) in
     let Q : ℕ → Type 0 = λ y. P c.if-left-eq1.done y in
-    subst Q (sym c.multiply-modulo-square.ensures) (elim c.if-left-eq1.branch [
-      | then-left-eq1 w ↦ subst (λ (x : ℕ). P x ((s * s) % m)) (sym (w.done-is ∙ w.multiply-modulo-done.ensures)) (mod-lt (d * s) (omega arith), low, odd_turn d s t n m w.if-left-eq1.true c.loop-left.invariant.2)
+    subst Q (sym c.multiply_modulo-square.ensures) (elim c.if-left-eq1.branch [
+      | then-left-eq1 w ↦ subst (λ (x : ℕ). P x ((s * s) % m)) (sym (w.done-is ∙ w.multiply_modulo-done.ensures)) (mod-lt (d * s) (omega arith), low, odd_turn d s t n m w.if-left-eq1.true c.loop-left.invariant.2)
       | else-left-eq1 w ↦ subst (λ (x : ℕ). P x ((s * s) % m)) (sym w.done-is) (c.loop-left.invariant.0, low, even_turn d s t n m w.if-left-eq1.false c.loop-left.invariant.2)
     ])
 

@@ -7,8 +7,8 @@ bound a b ha hb =
     let lb : b ≤ 8191 = omega arith in
     mul-le-mul la lb
 
-pub overflow-mul-result : goal.overflow-mul-result
-overflow-mul-result c = let h = bound c.args.a c.args.b c.requires.a_small c.requires.b-small in omega arith
+pub overflow_mul-result : goal.overflow_mul-result
+overflow_mul-result c = let h = bound c.args.a c.args.b c.requires.a_small c.requires.b_small in omega arith
 
 pub returns : goal.returns
-returns c = record { is = refl; bound = let h = bound c.args.a c.args.b c.requires.a_small c.requires.b-small in omega arith }
+returns c = record { is = refl; bound = let h = bound c.args.a c.args.b c.requires.a_small c.requires.b_small in omega arith }

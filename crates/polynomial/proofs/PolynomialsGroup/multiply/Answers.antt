@@ -6,8 +6,8 @@ use Rattle.polynomial.proofs.PolynomialsGroup.multiply.Goals as goal
 pub multiply-requires : goal.multiply-requires
 multiply-requires c = nonzero_below c.args.a.value c.args.a.nonzero
 
-pub invariant-of-result : goal.invariant-of-result
-invariant-of-result c =
+pub invariant_of-result : goal.invariant_of-result
+invariant_of-result c =
     (subst (λ (x : ℕ). T (nonzero x)) (sym c.multiply.ensures.is) (product_nonzero (c.args.a.value, c.args.a.nonzero) (c.args.b.value, c.args.b.nonzero)), tt)
 
 pub returns : goal.returns

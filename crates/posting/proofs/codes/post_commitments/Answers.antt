@@ -12,5 +12,5 @@ returns-in-None g c =
 
 pub returns-in-Two : goal.returns-in-Two
 returns-in-Two g c =
-    let P : _ → Type 0 = λ k. Appended g.G.Group.operations (commitment_points g.G.Group.point k) c.args.at c.post-element-in-Two.result c.args.buffer.now c.post-element-in-Two.new.buffer in
-    subst P (sym c.in-Two.is) (appended_both c.post-element-end.ensures c.post-element-in-Two.ensures)
+    let P : _ → Type 0 = λ k. Appended g.G.Group.operations (commitment_points g.G.Group.point k) c.args.at c.post_element-in-Two.result c.args.buffer.now c.post_element-in-Two.new.buffer in
+    subst P (sym c.in-Two.is) (appended_both c.post_element-end.ensures c.post_element-in-Two.ensures)

@@ -24,15 +24,15 @@ returns g c =
     let secrets = secrets_of E c.args.words.now in
     let question = c.args.question in
     let bytes = length c.args.buffer.now in
-    let read = c.in-ok-secrets.ensures.read in
-    let ready = no_refusal (unready G S question bytes) _ _ c.in-ok-committed.committed c.in-ok-committed.ensures.outcome in
-    let same : committed_meaning point value c.in-ok-committed.committed ≡ committed G E S (outputs_made G y inputs c.args.setting secrets) question =
-    ready.1 ∙ ap (λ m. committed G E S m question) (c.make-outputs-made.ensures ∙ ap (outputs_made G y inputs c.args.setting) read.1) in
+    let read = c.in_ok-secrets.ensures.read in
+    let ready = no_refusal (unready G S question bytes) _ _ c.in_ok-committed.committed c.in_ok-committed.ensures.outcome in
+    let same : committed_meaning point value c.in_ok-committed.committed ≡ committed G E S (outputs_made G y inputs c.args.setting secrets) question =
+    ready.1 ∙ ap (λ m. committed G E S m question) (c.make_outputs-made.ensures ∙ ap (outputs_made G y inputs c.args.setting) read.1) in
     let Answered : Committed P ℕ → ℕ → Type 0 = λ k n. Outcome (unready G S k.question n) c.args.place (λ m. message_meaning point number m ≡ answer_message G E S k) c.answer.result in
     let outcome : Outcome (unready G S question bytes) c.args.place (λ m. message_meaning point number m ≡ honest_message G E S y inputs c.args.setting secrets question) c.answer.result =
-    subst (λ k. Answered k bytes) same (subst (Answered (committed_meaning point value c.in-ok-committed.committed)) c.commit.auto.buffer c.answer.ensures.outcome) in
+    subst (λ k. Answered k bytes) same (subst (Answered (committed_meaning point value c.in_ok-committed.committed)) c.commit.auto.buffer c.answer.ensures.outcome) in
     let exponents = g.Exponent.Exponent.laws in
-    let order = c.in-ok-committed.ensures.same-order in
+    let order = c.in_ok-committed.ensures.same_order in
     let positive : 0 < E.order = let h = g.G.Group.laws.some_order in omega (arith, order) in
     let fit : Fit E secrets = record { answer_below = mod-lt _ positive; challenge_below = mod-lt _ (pow_pos E.challenge_bits) } in
     let taken = honest_taken g.G.Group.laws E exponents order S y inputs c.args.setting secrets question fit (ready_reaches G S question bytes ready.0) in
@@ -41,6 +41,6 @@ returns g c =
       outcome = rw six outcome;
       taken = value_made (unready G S question bytes) c.args.place (λ m. message_meaning point number m ≡ honest_message G E S y inputs c.args.setting secrets question) _ c.answer.result outcome
           (λ m e. ap (λ (n : Message P ℕ). judge G E S (record { key = y; inputs = inputs; outputs = n.outputs }) n.proofs question) e ∙ taken);
-      words-cleared = search rules;
-      buffer-cleared = search rules;
+      words_cleared = search rules;
+      buffer_cleared = search rules;
     }

@@ -19,6 +19,6 @@ returns-in-Err g c =
     let told = c.in-Err.ensures in
     record {
       judged = subst (λ (o : Option (Event ℕ ℕ)). JudgesCall T number o s f (Err c.at-in-Err.result) s') c.in-Some.ensures
-          (refused_call T number s s' c.in-Some.codes f (event_meaning point number c.in-ok-event.event) (length c.args.buffer.now) c.in-Err.refusal c.at-in-Err.result c.in-ok-event.ensures c.requires told.happens c.at-in-Err.ensures);
+          (refused_call T number s s' c.in-Some.codes f (event_meaning point number c.in_ok-event.event) (length c.args.buffer.now) c.in-Err.refusal c.at-in-Err.result c.in_ok-event.ensures c.requires told.happens c.at-in-Err.ensures);
       key = told.key;
     }

@@ -7,7 +7,7 @@ returns-in-Err g c =
     let made = c.refused.ensures in
     ([], made.0 ∙ sym (append-nil (vec_items c.args.lines)), rw c.in-Err.ensures (refl, made.1))
 
-pub returns-in-Err-next-draws : goal.returns-in-Err-next-draws
-returns-in-Err-next-draws g c =
-    let made = c.refused-in-Err-next-draws.ensures in
-    ([], made.0 ∙ sym (append-nil (vec_items c.args.lines)), rw (c.in-Ok.ensures, c.in-Err-next-draws.ensures) (refl, made.1))
+pub returns-in-Err-next_draws : goal.returns-in-Err-next_draws
+returns-in-Err-next_draws g c =
+    let made = c.refused-in-Err-next_draws.ensures in
+    ([], made.0 ∙ sym (append-nil (vec_items c.args.lines)), rw (c.in-Ok.ensures, c.in-Err-next_draws.ensures) (refl, made.1))

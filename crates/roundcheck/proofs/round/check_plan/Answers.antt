@@ -18,14 +18,14 @@ returns-in-Ok g c =
     let number = g.Exponent.Exponent.number in
     let kind : Some Chain ≡ plan_kind o.plan = ap Some (sym c.in-Chain.is) ∙ c.in-Some.ensures in
     let width = c.in-Ok.ensures.0 in
-    made_more c.check-round.result
+    made_more c.check_round.result
     (λ report h. subst (λ (k : Option PlanKind). ChecksPlan G E number k c.args.offset o q (vec_items report.lines) report.ending) kind
     (inl (
       chain o.wires,
       (subst (λ (n : ℕ). Fits n) width c.in-Ok.plan.fits, refl),
       subst (λ (n : ℕ). ChecksRound G E number n (chain n) c.args.offset o q (vec_items report.lines) report.ending) width h,
     )))
-    c.check-round.ensures
+    c.check_round.ensures
 
 pub returns-in-Ok-new : goal.returns-in-Ok-new
 returns-in-Ok-new g c =
@@ -37,11 +37,11 @@ returns-in-Ok-new g c =
     let kind : Some Butterfly ≡ plan_kind o.plan = ap Some (sym c.in-Butterfly.is) ∙ c.in-Some.ensures in
     let k = c.in-Ok-new.plan.levels in
     let width = c.in-Ok-new.ensures.0 in
-    made_more c.check-round-in-Ok-new.result
+    made_more c.check_round-in-Ok-new.result
     (λ report h. subst (λ (k : Option PlanKind). ChecksPlan G E number k c.args.offset o q (vec_items report.lines) report.ending) kind
     (inl (
       butterfly k,
       (k, c.in-Ok-new.plan.fits.0, c.in-Ok-new.plan.fits.1, width, refl),
       subst (λ (n : ℕ). ChecksRound G E number n (butterfly k) c.args.offset o q (vec_items report.lines) report.ending) width h,
     )))
-    c.check-round-in-Ok-new.ensures
+    c.check_round-in-Ok-new.ensures

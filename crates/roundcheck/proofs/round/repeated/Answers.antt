@@ -4,4 +4,4 @@ use Rattle.roundcheck.proofs.round.repeated.Goals as goal
 
 pub loop-preserved : goal.loop-preserved
 loop-preserved g c =
-    c.in-ok-push.ensures.items ∙ ap (λ (xs : List g.row.T.Denot). xs ++ c.args.item ∷ []) c.loop.invariant ∙ replicate_more c.loop.counter c.args.item
+    c.in_ok-push.ensures.items ∙ ap (λ (xs : List g.row.T.Denot). xs ++ c.args.item ∷ []) c.loop.invariant ∙ replicate_more c.loop.counter c.args.item

@@ -4,6 +4,6 @@ use Rattle.roundfile.proofs.number.u64_at.Goals as goal
 
 pub returns : goal.returns
 returns c =
-    let got = c.in-ok-get.ensures.lookup.0 in
-    let h : 8 ≤ length c.in-ok-get.field-0.now = omega (arith, ltb-false) in
-    ap Some c.from-be-bytes.ensures ∙ sym (eight_from c.args.bytes.now c.in-ok-get.field-0.now c.args.start got.2 got.3 h)
+    let got = c.in_ok-get.ensures.lookup.0 in
+    let h : 8 ≤ length c.in_ok-get.field-0.now = omega (arith, ltb-false) in
+    ap Some c.from_be_bytes.ensures ∙ sym (eight_from c.args.bytes.now c.in_ok-get.field-0.now c.args.start got.2 got.3 h)

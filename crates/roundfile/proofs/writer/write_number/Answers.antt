@@ -8,5 +8,5 @@ pub returns : goal.returns
 returns c =
     let buffer : List ℕ = c.args.buffer.now in
     let bytes : List ℕ = four_bytes c.args.number in
-    put_mid-paste c.args.start _ buffer _ bytes 4 (c.copy-from-slice.ensures.after ∙ c.to-be-bytes.ensures) (omega arith) refl
+    put_mid-paste c.args.start _ buffer _ bytes 4 (c.copy_from_slice.ensures.after ∙ c.to_be_bytes.ensures) (omega arith) refl
     ∙ append_assoc (take c.args.start buffer) bytes (drop (c.args.start + 4) buffer)

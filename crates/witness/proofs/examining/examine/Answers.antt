@@ -31,8 +31,8 @@ returns-then-disjunction-ne5 g c =
     let v = length-map (disjunctive_meaning point number) c.args.disjunction.now in
     few_second G E k W V (w ∙ c.if-equivalence-ne3.false) (λ e. c.if-disjunction-ne5.true (sym v ∙ e)) ∙ ap Some (sym c.at-then-disjunction-ne5.ensures)
 
-pub returns-in-err-product : goal.returns-in-err-product
-returns-in-err-product g c =
+pub returns-in_err-product : goal.returns-in_err-product
+returns-in_err-product g c =
     let G = g.G.Group.operations in
     let E = g.Exponent.Exponent.exponents in
     let point = g.G.Group.point in
@@ -42,11 +42,11 @@ returns-in-err-product g c =
     let V = map (disjunctive_meaning point number) c.args.disjunction.now in
     let w = length-map (equivalence_meaning point number) c.args.equivalence.now in
     let v = length-map (disjunctive_meaning point number) c.args.disjunction.now in
-    let p = err_from_is_err_and c.from-residual.result c.from-residual.ensures.1 in
-    rw (p.1, p.2) (counts_fit G E k W V (w ∙ c.if-equivalence-ne3.false) (v ∙ c.if-disjunction-ne5.false) ∙ refused_first _ _ c.in-err-product.ensures)
+    let p = err_from_is_err_and c.from_residual.result c.from_residual.ensures.1 in
+    rw (p.1, p.2) (counts_fit G E k W V (w ∙ c.if-equivalence-ne3.false) (v ∙ c.if-disjunction-ne5.false) ∙ refused_first _ _ c.in_err-product.ensures)
 
-pub returns-in-err-branch : goal.returns-in-err-branch
-returns-in-err-branch g c =
+pub returns-in_err-branch : goal.returns-in_err-branch
+returns-in_err-branch g c =
     let G = g.G.Group.operations in
     let E = g.Exponent.Exponent.exponents in
     let point = g.G.Group.point in
@@ -56,9 +56,9 @@ returns-in-err-branch g c =
     let V = map (disjunctive_meaning point number) c.args.disjunction.now in
     let w = length-map (equivalence_meaning point number) c.args.equivalence.now in
     let v = length-map (disjunctive_meaning point number) c.args.disjunction.now in
-    let p = err_from_is_err_and c.from-residual-in-err-branch.result c.from-residual-in-err-branch.ensures.1 in
+    let p = err_from_is_err_and c.from_residual-in_err-branch.result c.from_residual-in_err-branch.ensures.1 in
     rw (p.1, p.2) (counts_fit G E k W V (w ∙ c.if-equivalence-ne3.false) (v ∙ c.if-disjunction-ne5.false)
-    ∙ refused_then _ _ c.in-ok-product.ensures.0 c.in-err-branch.ensures)
+    ∙ refused_then _ _ c.in_ok-product.ensures.0 c.in_err-branch.ensures)
 
 pub returns : goal.returns
 returns g c =
@@ -72,6 +72,6 @@ returns g c =
     let w = length-map (equivalence_meaning point number) c.args.equivalence.now in
     let v = length-map (disjunctive_meaning point number) c.args.disjunction.now in (
       counts_fit G E k W V (w ∙ c.if-equivalence-ne3.false) (v ∙ c.if-disjunction-ne5.false)
-          ∙ refused_then _ _ c.in-ok-product.ensures.0 c.in-ok-branch.ensures.0,
-      ap₂ (λ a b. record { product = a; branch = b }) c.in-ok-product.ensures.1 c.in-ok-branch.ensures.1,
+          ∙ refused_then _ _ c.in_ok-product.ensures.0 c.in_ok-branch.ensures.0,
+      ap₂ (λ a b. record { product = a; branch = b }) c.in_ok-product.ensures.1 c.in_ok-branch.ensures.1,
     )

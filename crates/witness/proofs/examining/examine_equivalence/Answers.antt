@@ -6,8 +6,8 @@ use Rattle.witness.specs.Witnesses.{equivalence_meaning}
 use Rattle.witness.proofs.Judging.{unfit, equal, unaccepted, nothing_refused}
 use Rattle.witness.proofs.examining.examine_equivalence.Goals as goal
 
-pub returns-in-default : goal.returns-in-default
-returns-in-default g c = ap (at_place c.args.place) (unfit _ _ _ _ c.in-default.ensures) ∙ ap Some (sym c.at.ensures)
+pub returns-in_default : goal.returns-in_default
+returns-in_default g c = ap (at_place c.args.place) (unfit _ _ _ _ c.in_default.ensures) ∙ ap Some (sym c.at.ensures)
 
 pub returns-then-first-second : goal.returns-then-first-second
 returns-then-first-second g c =
@@ -15,8 +15,8 @@ returns-then-first-second g c =
     ap (at_place c.args.place) (equal _ _ _ _ read.0 (sym (ap (λ w. w.Answered.first.challenge) read.1) ∙ c.if-first-second.true ∙ ap (λ w. w.Answered.second.challenge) read.1))
     ∙ ap Some (sym c.at-then-first-second.ensures)
 
-pub returns-then-not-product-holds : goal.returns-then-not-product-holds
-returns-then-not-product-holds g c =
+pub returns-then-not-product_holds : goal.returns-then-not-product_holds
+returns-then-not-product_holds g c =
     let G = g.G.Group.operations in
     let point = g.G.Group.point in
     let value = g.Exponent.Exponent.value in
@@ -24,12 +24,12 @@ returns-then-not-product-holds g c =
     let w = equivalence_meaning point g.Exponent.Exponent.number c.args.witness in
     let read = c.in-Some.ensures in
     let same : equivalence_meaning point value c.in-Some.read ≡ w = ap (equivalence_meaning point (λ n. n)) read.1 in
-    let holds : product_accepted G k w.z w.Answered ≡ c.product-holds.result =
-    ap (λ w. product_accepted G k w.z w.Answered) (sym same) ∙ sym c.product-holds.ensures in
+    let holds : product_accepted G k w.z w.Answered ≡ c.product_holds.result =
+    ap (λ w. product_accepted G k w.z w.Answered) (sym same) ∙ sym c.product_holds.ensures in
     ap (at_place c.args.place) (unaccepted _ _ _ _ read.0
     (λ e. c.if-first-second.false (ap (λ w. w.Answered.first.challenge) read.1 ∙ e ∙ sym (ap (λ w. w.Answered.second.challenge) read.1)))
-    (holds ∙ c.if-not-product-holds.true))
-    ∙ ap Some (sym c.at-then-not-product-holds.ensures)
+    (holds ∙ c.if-not-product_holds.true))
+    ∙ ap Some (sym c.at-then-not-product_holds.ensures)
 
 pub returns : goal.returns
 returns g c =
@@ -41,10 +41,10 @@ returns g c =
     let w = equivalence_meaning point g.Exponent.Exponent.number c.args.witness in
     let read = c.in-Some.ensures in
     let same : equivalence_meaning point value c.in-Some.read ≡ w = ap (equivalence_meaning point (λ n. n)) read.1 in
-    let holds : product_accepted G k w.z w.Answered ≡ c.product-holds.result =
-    ap (λ w. product_accepted G k w.z w.Answered) (sym same) ∙ sym c.product-holds.ensures in (
+    let holds : product_accepted G k w.z w.Answered ≡ c.product_holds.result =
+    ap (λ w. product_accepted G k w.z w.Answered) (sym same) ∙ sym c.product_holds.ensures in (
       nothing_refused _ _ _ _ read.0
           (λ e. c.if-first-second.false (ap (λ w. w.Answered.first.challenge) read.1 ∙ e ∙ sym (ap (λ w. w.Answered.second.challenge) read.1)))
-          (holds ∙ c.if-not-product-holds.false),
-      ap (λ γ. record { z = value c.in-Some.read.z; gamma = γ }) c.gamma-of.ensures ∙ ap (equivalence_sample E) same,
+          (holds ∙ c.if-not-product_holds.false),
+      ap (λ γ. record { z = value c.in-Some.read.z; gamma = γ }) c.gamma_of.ensures ∙ ap (equivalence_sample E) same,
     )

@@ -7,8 +7,8 @@ use Rattle.witness.specs.Witnesses.{equivalence_meaning}
 use Rattle.witness.proofs.Judging.{stop_at, skip_at, done_at, refused_first, refused_then, samples_same, three_of, equivalence_refusal_is}
 use Rattle.witness.proofs.examining.examine_equivalences.Goals as goal
 
-pub returns-in-err-check-draws : goal.returns-in-err-check-draws
-returns-in-err-check-draws g c =
+pub returns-in_err-check_draws : goal.returns-in_err-check_draws
+returns-in_err-check_draws g c =
     let G = g.G.Group.operations in
     let E = g.Exponent.Exponent.exponents in
     let point = g.G.Group.point in
@@ -18,11 +18,11 @@ returns-in-err-check-draws g c =
     let m = equivalence_meaning point number in
     let J = judge_equivalence G E k in
     let n = c.requires in
-    let p = err_from_is_err_and c.from-residual.result c.from-residual.ensures.1 in
-    rw (p.1, p.2) (equivalence_refusal_is G E k point number ws ∙ refused_first _ _ c.in-err-check-draws.ensures)
+    let p = err_from_is_err_and c.from_residual.result c.from_residual.ensures.1 in
+    rw (p.1, p.2) (equivalence_refusal_is G E k point number ws ∙ refused_first _ _ c.in_err-check_draws.ensures)
 
-pub returns-in-err-first : goal.returns-in-err-first
-returns-in-err-first g c =
+pub returns-in_err-first : goal.returns-in_err-first
+returns-in_err-first g c =
     let G = g.G.Group.operations in
     let E = g.Exponent.Exponent.exponents in
     let point = g.G.Group.point in
@@ -32,12 +32,12 @@ returns-in-err-first g c =
     let m = equivalence_meaning point number in
     let J = judge_equivalence G E k in
     let n = c.requires in
-    let p = err_from_is_err_and c.from-residual-in-err-first.result c.from-residual-in-err-first.ensures.1 in
-    rw (p.1, p.2) (equivalence_refusal_is G E k point number ws ∙ refused_then _ _ c.in-ok-check-draws.ensures
-    (stop_at J m ws 0 0 c.index-witnesses-0.result c.index-witnesses-0.is (omega arith) c.in-err-first.ensures))
+    let p = err_from_is_err_and c.from_residual-in_err-first.result c.from_residual-in_err-first.ensures.1 in
+    rw (p.1, p.2) (equivalence_refusal_is G E k point number ws ∙ refused_then _ _ c.in_ok-check_draws.ensures
+    (stop_at J m ws 0 0 c.index-witnesses-0.result c.index-witnesses-0.is (omega arith) c.in_err-first.ensures))
 
-pub returns-in-err-second : goal.returns-in-err-second
-returns-in-err-second g c =
+pub returns-in_err-second : goal.returns-in_err-second
+returns-in_err-second g c =
     let G = g.G.Group.operations in
     let E = g.Exponent.Exponent.exponents in
     let point = g.G.Group.point in
@@ -47,13 +47,13 @@ returns-in-err-second g c =
     let m = equivalence_meaning point number in
     let J = judge_equivalence G E k in
     let n = c.requires in
-    let p = err_from_is_err_and c.from-residual-in-err-second.result c.from-residual-in-err-second.ensures.1 in
-    rw (p.1, p.2) (equivalence_refusal_is G E k point number ws ∙ refused_then _ _ c.in-ok-check-draws.ensures
-    (skip_at J m ws 0 0 c.index-witnesses-0.result c.index-witnesses-0.is (omega arith) c.in-ok-first.ensures.0
-    (stop_at J m ws 1 1 c.index-witnesses-1.result c.index-witnesses-1.is (omega arith) c.in-err-second.ensures)))
+    let p = err_from_is_err_and c.from_residual-in_err-second.result c.from_residual-in_err-second.ensures.1 in
+    rw (p.1, p.2) (equivalence_refusal_is G E k point number ws ∙ refused_then _ _ c.in_ok-check_draws.ensures
+    (skip_at J m ws 0 0 c.index-witnesses-0.result c.index-witnesses-0.is (omega arith) c.in_ok-first.ensures.0
+    (stop_at J m ws 1 1 c.index-witnesses-1.result c.index-witnesses-1.is (omega arith) c.in_err-second.ensures)))
 
-pub returns-in-err-third : goal.returns-in-err-third
-returns-in-err-third g c =
+pub returns-in_err-third : goal.returns-in_err-third
+returns-in_err-third g c =
     let G = g.G.Group.operations in
     let E = g.Exponent.Exponent.exponents in
     let point = g.G.Group.point in
@@ -63,11 +63,11 @@ returns-in-err-third g c =
     let m = equivalence_meaning point number in
     let J = judge_equivalence G E k in
     let n = c.requires in
-    let p = err_from_is_err_and c.from-residual-in-err-third.result c.from-residual-in-err-third.ensures.1 in
-    rw (p.1, p.2) (equivalence_refusal_is G E k point number ws ∙ refused_then _ _ c.in-ok-check-draws.ensures
-    (skip_at J m ws 0 0 c.index-witnesses-0.result c.index-witnesses-0.is (omega arith) c.in-ok-first.ensures.0
-    (skip_at J m ws 1 1 c.index-witnesses-1.result c.index-witnesses-1.is (omega arith) c.in-ok-second.ensures.0
-    (stop_at J m ws 2 2 c.index-witnesses-2.result c.index-witnesses-2.is (omega arith) c.in-err-third.ensures))))
+    let p = err_from_is_err_and c.from_residual-in_err-third.result c.from_residual-in_err-third.ensures.1 in
+    rw (p.1, p.2) (equivalence_refusal_is G E k point number ws ∙ refused_then _ _ c.in_ok-check_draws.ensures
+    (skip_at J m ws 0 0 c.index-witnesses-0.result c.index-witnesses-0.is (omega arith) c.in_ok-first.ensures.0
+    (skip_at J m ws 1 1 c.index-witnesses-1.result c.index-witnesses-1.is (omega arith) c.in_ok-second.ensures.0
+    (stop_at J m ws 2 2 c.index-witnesses-2.result c.index-witnesses-2.is (omega arith) c.in_err-third.ensures))))
 
 pub returns : goal.returns
 returns g c =
@@ -80,13 +80,13 @@ returns g c =
     let m = equivalence_meaning point number in
     let J = judge_equivalence G E k in
     let n = c.requires in
-    let none = equivalence_refusal_is G E k point number ws ∙ refused_then _ _ c.in-ok-check-draws.ensures
-    (skip_at J m ws 0 0 c.index-witnesses-0.result c.index-witnesses-0.is (omega arith) c.in-ok-first.ensures.0
-    (skip_at J m ws 1 1 c.index-witnesses-1.result c.index-witnesses-1.is (omega arith) c.in-ok-second.ensures.0
-    (skip_at J m ws 2 2 c.index-witnesses-2.result c.index-witnesses-2.is (omega arith) c.in-ok-third.ensures.0
+    let none = equivalence_refusal_is G E k point number ws ∙ refused_then _ _ c.in_ok-check_draws.ensures
+    (skip_at J m ws 0 0 c.index-witnesses-0.result c.index-witnesses-0.is (omega arith) c.in_ok-first.ensures.0
+    (skip_at J m ws 1 1 c.index-witnesses-1.result c.index-witnesses-1.is (omega arith) c.in_ok-second.ensures.0
+    (skip_at J m ws 2 2 c.index-witnesses-2.result c.index-witnesses-2.is (omega arith) c.in_ok-third.ensures.0
     (done_at J m ws 3 3 (omega arith))))) in
     let list = three_of ws c.index-witnesses-0.result c.index-witnesses-1.result c.index-witnesses-2.result n c.index-witnesses-0.is c.index-witnesses-1.is c.index-witnesses-2.is in (
       none,
-      samples_same c.in-ok-first.ensures.1 c.in-ok-second.ensures.1 c.in-ok-third.ensures.1
+      samples_same c.in_ok-first.ensures.1 c.in_ok-second.ensures.1 c.in_ok-third.ensures.1
           ∙ sym (ap (λ l. first_three (map (equivalence_sample E) (map m l))) list),
     )

@@ -7,4 +7,4 @@ pub returns : goal.returns
 unfolding gamma
 returns g c =
     let E = g.X.Exponent.exponents in
-    c.multiply.ensures ∙ ap₂ (product E) c.subtract-above.ensures (c.invert.ensures ∙ ap E.inverse c.challenge-difference-below.ensures)
+    c.multiply.ensures ∙ ap₂ (product E) c.subtract-above.ensures (c.invert.ensures ∙ ap E.inverse c.challenge_difference-below.ensures)

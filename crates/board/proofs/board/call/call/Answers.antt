@@ -39,12 +39,12 @@ returns-in-Turning-Step g c =
     let b = c.args.board.now in
     let T = terms g.G.Group.operations g.Exponent.Exponent.exponents (g.S.Source.words c.args.source.now) (point b.key) (g.P.Plan.listing c.args.plan.now) in
     let bytes = length c.args.buffer.now in
-    let message = c.in-default-Step.field-0-1 in
+    let message = c.in_default-Step.field-0-1 in
     let m = message_meaning point g.Exponent.Exponent.number message in
-    let width = c.code-width.ensures in
+    let width = c.code_width.ensures in
     let done = λ (e : Event g.row.G-Element.Denot _). Happens T (state_map (meaning point) (view b)) (event_meaning point g.Exponent.Exponent.number e) bytes c.step.result (state_map (meaning point) (view c.step.new.board)) in
     record {
-      happens = subst done (sym c.in-default-Step.is-1) (step_happens T point (view b) (view c.step.new.board) bytes m message.outputs refl c.step.result c.in-Turning-Step.is-0 (omega (arith, c.if-short.false)) c.step.ensures.happens);
+      happens = subst done (sym c.in_default-Step.is-1) (step_happens T point (view b) (view c.step.new.board) bytes m message.outputs refl c.step.result c.in-Turning-Step.is-0 (omega (arith, c.if-short.false)) c.step.ensures.happens);
       key = c.step.ensures.key;
       cleared = search rules;
     }

@@ -20,12 +20,12 @@ returns g c =
     let G = g.G.Group.operations in
     let point = g.G.Group.point in
     let n = g.P.Plan.width c.args.plan.now in
-    let fits = c.in-ok-judge-opening.ensures.fits in
+    let fits = c.in_ok-judge_opening.ensures.fits in
     let width = c.wires.ensures in
     let wires = length c.args.wires.now in
     let start = length c.args.start.now in
     let judged : judge_open G n c.args.servers (point c.args.key) wires start ≡ None =
-    ap (λ (m : ℕ). judge_open G m c.args.servers (point c.args.key) wires start) (sym width) ∙ answer_ok _ _ _ c.in-ok-judge-opening.ensures.judged in
+    ap (λ (m : ℕ). judge_open G m c.args.servers (point c.args.key) wires start) (sym width) ∙ answer_ok _ _ _ c.in_ok-judge_opening.ensures.judged in
     rw judged (
       refl,
       ap₂ {C = State (Ciphertext g.G.Group.Point)} (λ ws ss. record { wires = ws; start = ss; servers = c.args.servers; stage = Gathering; posted = 0; completed = 0; server = 0; next = 0 })

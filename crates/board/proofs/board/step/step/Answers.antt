@@ -23,8 +23,8 @@ returns-then-on-board g c =
     let judged = ap (judge_step T s m) (sym c.in-Some.ensures) ∙ outside T s m c.in-Some.on (omega (arith, c.if-on-board.true)) in
     record { key = refl; happens = rw judged (c.at-then-on-board.ensures, refl) }
 
-pub comparison-on-comparison-requires : goal.comparison-on-comparison-requires
-comparison-on-comparison-requires g c =
+pub comparison_on-comparison-requires : goal.comparison_on-comparison-requires
+comparison_on-comparison-requires g c =
     let plan = g.met.P.Plan.lawful c.args.plan.now in
     let on = on_wires _ _ _ _ plan.within c.in-Some.ensures in
     record { first = omega (arith, on.0, c.if-on-board.false); second = omega (arith, c.if-on-board.false) }
@@ -33,7 +33,7 @@ pub write-requires : goal.write-requires
 write-requires g c =
     let plan = g.met.P.Plan.lawful c.args.plan.now in
     let on = on_wires _ _ _ _ plan.within c.in-Some.ensures in
-    let kept = c.comparison-on-comparison.ensures.kept in
+    let kept = c.comparison_on-comparison.ensures.kept in
     let wires = ap (λ (x : Board g.row.G-Element.Denot). length x.wires.now) kept in
     let next = ap (λ (x : Board g.row.G-Element.Denot). x.next) kept in
     record {
@@ -44,8 +44,8 @@ write-requires g c =
       stage = ap (λ (x : Board g.row.G-Element.Denot). x.stage) kept ∙ c.requires.stage;
     }
 
-pub returns-in-err-check : goal.returns-in-err-check
-returns-in-err-check g c =
+pub returns-in_err-check : goal.returns-in_err-check
+returns-in_err-check g c =
     let G = g.G.Group.operations in
     let E = g.Exponent.Exponent.exponents in
     let S = g.S.Source.words c.args.source.now in
@@ -57,16 +57,16 @@ returns-in-err-check g c =
     let m = message_meaning point g.Exponent.Exponent.number c.args.message in
     let on = c.in-Some.on in
     let long = length-map (meaning point) b.wires.now in
-    let kept = c.comparison-on-comparison.ensures.kept in
-    let same-comparison : comparison_meaning point c.comparison-on-comparison.result ≡ comparison_at (point b.key) (map (meaning point) b.wires.now) on (pair_meaning point c.args.message.outputs) =
-    ap (comparison_meaning point) c.comparison-on-comparison.ensures.is ∙ comparison_at_meaning point b.key b.wires.now on c.args.message.outputs in
-    let same-question : c.question-of-question.result ≡ question T s =
-    c.question-of-question.ensures ∙ ap₂ (λ (n k : ℕ). 4 * (n * (k - 1) + b.next)) c.count-count.ensures (ap (λ (x : Board g.row.G-Element.Denot). x.server) kept) in
-    let judged : judge_step T s m (nth cs b.next) ≡ judge G E S (comparison_meaning point c.comparison-on-comparison.result) m.proofs c.question-of-question.result =
+    let kept = c.comparison_on-comparison.ensures.kept in
+    let same-comparison : comparison_meaning point c.comparison_on-comparison.result ≡ comparison_at (point b.key) (map (meaning point) b.wires.now) on (pair_meaning point c.args.message.outputs) =
+    ap (comparison_meaning point) c.comparison_on-comparison.ensures.is ∙ comparison_at_meaning point b.key b.wires.now on c.args.message.outputs in
+    let same-question : c.question_of-question.result ≡ question T s =
+    c.question_of-question.ensures ∙ ap₂ (λ (n k : ℕ). 4 * (n * (k - 1) + b.next)) c.count-count.ensures (ap (λ (x : Board g.row.G-Element.Denot). x.server) kept) in
+    let judged : judge_step T s m (nth cs b.next) ≡ judge G E S (comparison_meaning point c.comparison_on-comparison.result) m.proofs c.question_of-question.result =
     ap (judge_step T s m) (sym c.in-Some.ensures) ∙ inside T s m on (omega (arith, c.if-on-board.false)) ∙ sym (ap₂ (λ k (q : ℕ). judge G E S k m.proofs q) same-comparison same-question) in
     let fits = le-leb (11 * G.width) (length c.args.buffer.now) c.requires.buffer in
-    let e = err_from_is_err_and c.from-residual.result c.from-residual.ensures.1 in
-    let told = answer_err _ _ _ _ (simp fits at c.in-err-check.ensures.verdict) in
+    let e = err_from_is_err_and c.from_residual.result c.from_residual.ensures.1 in
+    let told = answer_err _ _ _ _ (simp fits at c.in_err-check.ensures.verdict) in
     record { key = ap (λ (x : Board g.row.G-Element.Denot). x.key) kept; happens = rw (judged, told.1, e.1, e.2) (told.2, ap view kept) }
 
 pub returns : goal.returns
@@ -82,15 +82,15 @@ returns g c =
     let m = message_meaning point g.Exponent.Exponent.number c.args.message in
     let on = c.in-Some.on in
     let long = length-map (meaning point) b.wires.now in
-    let kept = c.comparison-on-comparison.ensures.kept in
-    let same-comparison : comparison_meaning point c.comparison-on-comparison.result ≡ comparison_at (point b.key) (map (meaning point) b.wires.now) on (pair_meaning point c.args.message.outputs) =
-    ap (comparison_meaning point) c.comparison-on-comparison.ensures.is ∙ comparison_at_meaning point b.key b.wires.now on c.args.message.outputs in
-    let same-question : c.question-of-question.result ≡ question T s =
-    c.question-of-question.ensures ∙ ap₂ (λ (n k : ℕ). 4 * (n * (k - 1) + b.next)) c.count-count.ensures (ap (λ (x : Board g.row.G-Element.Denot). x.server) kept) in
-    let judged : judge_step T s m (nth cs b.next) ≡ judge G E S (comparison_meaning point c.comparison-on-comparison.result) m.proofs c.question-of-question.result =
+    let kept = c.comparison_on-comparison.ensures.kept in
+    let same-comparison : comparison_meaning point c.comparison_on-comparison.result ≡ comparison_at (point b.key) (map (meaning point) b.wires.now) on (pair_meaning point c.args.message.outputs) =
+    ap (comparison_meaning point) c.comparison_on-comparison.ensures.is ∙ comparison_at_meaning point b.key b.wires.now on c.args.message.outputs in
+    let same-question : c.question_of-question.result ≡ question T s =
+    c.question_of-question.ensures ∙ ap₂ (λ (n k : ℕ). 4 * (n * (k - 1) + b.next)) c.count-count.ensures (ap (λ (x : Board g.row.G-Element.Denot). x.server) kept) in
+    let judged : judge_step T s m (nth cs b.next) ≡ judge G E S (comparison_meaning point c.comparison_on-comparison.result) m.proofs c.question_of-question.result =
     ap (judge_step T s m) (sym c.in-Some.ensures) ∙ inside T s m on (omega (arith, c.if-on-board.false)) ∙ sym (ap₂ (λ k (q : ℕ). judge G E S k m.proofs q) same-comparison same-question) in
     let fits = le-leb (11 * G.width) (length c.args.buffer.now) c.requires.buffer in
-    let none = answer_ok _ _ _ (simp fits at c.in-ok-check.ensures.verdict) in
+    let none = answer_ok _ _ _ (simp fits at c.in_ok-check.ensures.verdict) in
     let Count : ℕ → Type 0 = λ n. view c.write.new.self ≡ stepped_state n (view b) on.first on.second c.args.message.outputs.first c.args.message.outputs.second in
     record {
       key = c.write.ensures.key ∙ ap (λ (x : Board g.row.G-Element.Denot). x.key) kept;

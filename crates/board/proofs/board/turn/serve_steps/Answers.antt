@@ -16,11 +16,11 @@ use Rattle.board.proofs.board.turn.serve_steps.Goals as goal
 pub loop-k-init : goal.loop-k-init
 loop-k-init g c = (refl, none_made _ _ _ _ c.requires.stage c.requires.next)
 
-pub returns-in-default : goal.returns-in-default
-returns-in-default g c = absurd (nth_within (g.P.Plan.listing c.args.plan.now) c.loop-k.k (omega (arith, c.loop-k-test.true, c.requires.settings)) (sym c.in-default.ensures))
+pub returns-in_default : goal.returns-in_default
+returns-in_default g c = absurd (nth_within (g.P.Plan.listing c.args.plan.now) c.loop-k.k (omega (arith, c.loop-k-test.true, c.requires.settings)) (sym c.in_default.ensures))
 
-pub serve-step-requires : goal.serve-step-requires
-serve-step-requires g c =
+pub serve_step-requires : goal.serve_step-requires
+serve_step-requires g c =
     let plan = g.met.P.Plan.lawful c.args.plan.now in
     let on = on_wires _ _ _ _ plan.within c.in-Some.ensures in
     let so_far = c.loop-k.invariant.1 in
@@ -47,13 +47,13 @@ loop-k-preserved g c =
     let ss = c.args.settings.now in
     let k = c.loop-k.k in
     let on = on_wires _ _ _ _ (g.met.P.Plan.lawful c.args.plan.now).within c.in-Some.ensures in
-    let told = c.in-ok-serve-step.ensures in
+    let told = c.in_ok-serve_step.ensures in
     let x = get_or ss k Straight in
-    let s' = state_map (meaning point) (view c.serve-step.new.board) in
+    let s' = state_map (meaning point) (view c.serve_step.new.board) in
     let below : k < length ss = omega (arith, c.loop-k-test.true) in
     let made = one_made T ss c.args.words.now s₀ k s c.in-Some.on x c.requires.settings on.2 (sym c.in-Some.ensures) (take_more ss k Straight below) c.loop-k.invariant.1 in
-    let is = subst (λ (y : g.row.G-Element.Denot). s' ≡ after_step (terms-of y) s (honest_step (terms-of y) s c.in-Some.on x c.six-words-six.result) (Some c.in-Some.on)) c.loop-k.invariant.0 told.state
-    ∙ ap (λ (ws : List ℕ). after_step T s (honest_step T s c.in-Some.on x ws) (Some c.in-Some.on)) c.six-words-six.ensures in (
+    let is = subst (λ (y : g.row.G-Element.Denot). s' ≡ after_step (terms-of y) s (honest_step (terms-of y) s c.in-Some.on x c.six_words-six.result) (Some c.in-Some.on)) c.loop-k.invariant.0 told.state
+    ∙ ap (λ (ws : List ℕ). after_step T s (honest_step T s c.in-Some.on x ws) (Some c.in-Some.on)) c.six_words-six.ensures in (
       told.key ∙ c.loop-k.invariant.0,
       subst (λ (t : State (Ciphertext g.G.Group.Point)). SoFar T ss c.args.words.now s₀ (k + 1) t) (sym is) made,
     )

@@ -22,7 +22,7 @@ returns g c =
     (d.equivalence ≡ equivalence_challenge G E S k (point c.args.committed.equivalence) first)
     × (d.disjunction ≡ disjunction_challenge G E S k (point c.args.committed.first) (point c.args.committed.second) first) in
     record {
-      outcome = then_value _ _ Drawn _ c.in-ok-c.c _ c.in-ok-c.ensures (λ drawn.
+      outcome = then_value _ _ Drawn _ c.in_ok-c.c _ c.in_ok-c.ensures (λ drawn.
           ap {B = Message g.G.Group.Point ℕ} (λ p. record { outputs = pair_meaning point made.comparison.outputs; proofs = p })
           (ap (proofs_meaning point (λ (n : ℕ). n)) c.respond.ensures ∙ answered_meaning point E made.setting _ _ _ _ _ _ ∙ ap₂ Answered drawn.0 drawn.1));
       cleared = search rules;

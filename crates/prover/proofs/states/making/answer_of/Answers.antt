@@ -16,4 +16,4 @@ returns g c =
     let value = g.X.Exponent.value in
     c.add.ensures
     ∙ ap (λ (n : ℕ). (value c.args.e + n) % q)
-    (c.multiply.ensures ∙ ap (λ (n : ℕ). (n * value c.args.r) % q) c.from-word.ensures ∙ reduced_first c.args.c (value c.args.r) q)
+    (c.multiply.ensures ∙ ap (λ (n : ℕ). (n * value c.args.r) % q) c.from_word.ensures ∙ reduced_first c.args.c (value c.args.r) q)

@@ -18,14 +18,14 @@ first = Round (record { group = 0; plan = 0; wires = 0; servers = 0; key = 0 })
 pub loop-line-preserved : goal.loop-line-preserved
 unfolding first
 loop-line-preserved c =
-    let lines = c.as-slice-line-items.result.now in
+    let lines = c.as_slice-line-items.result.now in
     let below : c.loop-line.line-index < length lines = omega (arith, c.loop-line-test.true) in
-    one_more lines _ _ first _ _ c.as-slice-line-items.ensures.value below c.loop-line.invariant c.in-ok-writeln.ensures.bytes
+    one_more lines _ _ first _ _ c.as_slice-line-items.ensures.value below c.loop-line.invariant c.in_ok-writeln.ensures.bytes
 
 pub returns : goal.returns
 returns c =
     let lines = vec_items c.args.self.now.lines in
-    let held = c.as-slice-line-items.ensures.value in
+    let held = c.as_slice-line-items.ensures.value in
     let whole : take c.loop-line.line-index lines ≡ lines = take_all _ lines (omega (arith, c.loop-line-test.false, ap length held)) in
-    c.in-ok-writeln-2.ensures.bytes
+    c.in_ok-writeln-2.ensures.bytes
     ∙ ap (λ (bs : List ℕ). bs ++ (ending_text c.args.self.now.ending ++ 10 ∷ [])) (c.loop-line.invariant ∙ ap lines_text whole)

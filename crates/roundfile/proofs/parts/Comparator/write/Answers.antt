@@ -11,14 +11,14 @@ use Rattle.roundfile.proofs.parts.Comparator.write.Goals as goal
 pub returns : goal.returns
 returns c =
     let buffer = c.args.buffer.now in
-    let after = c.write-record.ensures.after ∙ ap (λ n. written (3 + 4 * length n) (record_bytes Comparator all_fields n) buffer) c.numbers-numbers.ensures in
+    let after = c.write_record.ensures.after ∙ ap (λ n. written (3 + 4 * length n) (record_bytes Comparator all_fields n) buffer) c.numbers-numbers.ensures in
     record {
       after = after;
-      answer = c.write-record.ensures.answer ∙ ap (λ n. write_answer (3 + 4 * length n) buffer) c.numbers-numbers.ensures;
+      answer = c.write_record.ensures.answer ∙ ap (λ n. write_answer (3 + 4 * length n) buffer) c.numbers-numbers.ensures;
       back = λ long. (
         flat_map four_bytes (numbers_of c.args.self.now),
         ap parse (after ∙ cond-false _ _ _ (le-ltb _ _ long)) ∙ reads_back c.args.self.now (drop 51 buffer),
-        values_back c.args.self.now (subst (λ n. (i : ℕ) → get_or n i 0 < 2 ^ 32) c.numbers-numbers.ensures c.write-record.ensures.fitting),
+        values_back c.args.self.now (subst (λ n. (i : ℕ) → get_or n i 0 < 2 ^ 32) c.numbers-numbers.ensures c.write_record.ensures.fitting),
       );
       same = writes_what_was_read;
     }

@@ -7,8 +7,8 @@ use Rattle.roundfile.proofs.parts.Fields.number_or.Goals as goal
 pub returns-then-stands : goal.returns-then-stands
 unfolding field
 returns-then-stands c =
-    c.unwrap-or.ensures
-    ∙ ap (λ found. unwrap_or found c.args.default) (c.u32-at.ensures ∙ ap (number_at 4 c.args.self.bytes.now) c.start.ensures)
+    c.unwrap_or.ensures
+    ∙ ap (λ found. unwrap_or found c.args.default) (c.u32_at.ensures ∙ ap (number_at 4 c.args.self.bytes.now) c.start.ensures)
     ∙ sym (cond-true _ _ _ (sym c.stands.ensures ∙ c.if-stands.true))
 
 pub returns-else-stands : goal.returns-else-stands
