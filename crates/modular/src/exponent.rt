@@ -5,6 +5,7 @@ ghost use Rattle.modular.specs.Modular.{modular, order_test};
 
 use crate::arithmetic::{multiply_modulo, power_modulo};
 use group::Exponent;
+use std::alloc::AllocError;
 use std::marker::PhantomData;
 
 // A marker type's word that Q is a prime order with room for challenges of L bits.
@@ -17,6 +18,16 @@ pub struct Modular<const Q: u32, const L: u32, M> {
     value: u32,
     marker: PhantomData<M>,
     ghost small: { value < Q },
+}
+
+impl<const Q: u32, const L: u32, M> Clone for Modular<Q, L, M> {
+    ghost is_clone = { λ x y. y ≡ x };
+
+    ghost is_infallible = { λ _. Unit {0} };
+
+    fn clone(&self) -> Result<Self, AllocError> {
+        Ok(*self)
+    }
 }
 
 impl<const Q: u32, const L: u32, M> Copy for Modular<Q, L, M> {}

@@ -32,11 +32,10 @@ impl<const P: u32, const Q: u32> fmt::Display for Residue<P, Q> {
 }
 
 // The group of these elements, with challenges of L bits.
+#[derive_where(Clone, Copy)]
 pub struct Residues<const P: u32, const Q: u32, const G: u32, const L: u32, M> {
     pub(crate) marker: PhantomData<M>,
 }
-
-impl<const P: u32, const Q: u32, const G: u32, const L: u32, M> Copy for Residues<P, Q, G, L, M> {}
 
 impl<const P: u32, const Q: u32, const G: u32, const L: u32, M: Subgroup<P, Q, G>> Residues<
     P,

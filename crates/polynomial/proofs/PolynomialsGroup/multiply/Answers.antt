@@ -8,7 +8,7 @@ multiply-requires c = nonzero_below c.args.a.value c.args.a.nonzero
 
 pub invariant_of-result : goal.invariant_of-result
 invariant_of-result c =
-    (subst (λ (x : ℕ). T (nonzero x)) (sym c.multiply.ensures.is) (product_nonzero (c.args.a.value, c.args.a.nonzero) (c.args.b.value, c.args.b.nonzero)), tt)
+    record { nonzero = subst (λ (x : ℕ). T (nonzero x)) (sym c.multiply.ensures.is) (product_nonzero (c.args.a.value, c.args.a.nonzero) (c.args.b.value, c.args.b.nonzero)) }
 
 pub returns : goal.returns
 returns c = nonzero_path _ _ c.multiply.ensures.is

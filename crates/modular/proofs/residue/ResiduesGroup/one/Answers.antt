@@ -4,7 +4,7 @@ use Rattle.modular.specs.Residues.{large_of, one_member}
 use Rattle.modular.proofs.residue.ResiduesGroup.one.Goals as goal
 
 pub invariant_of-result : goal.invariant_of-result
-invariant_of-result g c = (one_member g.row.P g.row.Q (large_of g.row.P g.row.Q g.row.G g.M.Subgroup.tested), tt)
+invariant_of-result g c = record { member = one_member g.row.P g.row.Q (large_of g.row.P g.row.Q g.row.G g.M.Subgroup.tested) }
 
 pub returns : goal.returns
 returns g c = residue_path g.row.P g.row.Q _ _ refl
