@@ -11,7 +11,7 @@ returns g c =
     let point = g.G.Group.point in
     let old = meaning point c.args.c in
     let y = point c.args.key in
-    let r = g.Exponent.Exponent.value c.args.r in
+    let r = g.G.Exponent.Exponent.value c.args.r in
     let alpha : point c.multiply.result ≡ G.times old.alpha (power G y r) = c.multiply.ensures ∙ ap (G.times old.alpha) c.raise.ensures.is in
     let beta : point c.multiply-2.result ≡ G.times old.beta (power G G.base r) =
     c.multiply-2.ensures ∙ ap (G.times old.beta) (c.raise-2.ensures.is ∙ ap (λ b. power G b r) c.generator.ensures) in

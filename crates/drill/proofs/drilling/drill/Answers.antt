@@ -17,18 +17,18 @@ returns-in_err-examination g c =
 pub returns : goal.returns
 returns g c =
     let G = g.G.Group.operations in
-    let E = g.Exponent.Exponent.exponents in
+    let E = g.G.Exponent.Exponent.exponents in
     let laws = g.G.Group.laws in
     let point = g.G.Group.point in
-    let number = g.Exponent.Exponent.number in
+    let number = g.G.Exponent.Exponent.number in
     let k = comparison_meaning point c.args.comparison in
     let W = map (equivalence_meaning point number) c.args.equivalence.now in
     let V = map (disjunctive_meaning point number) c.args.disjunction.now in
     let examined = c.in_ok-examination.ensures in
     let same = c.order.ensures.same_order in
-    let is : finding_meaning g.Exponent.Exponent.value c.find.result ≡ computed E (examination E W V) = c.find.ensures ∙ ap (computed E) examined.1 in
-    let all = subst (Found E (examination E W V)) (sym is) (found laws g.Exponent.Exponent.laws same k W V examined.0) in
+    let is : finding_meaning g.G.Exponent.Exponent.value c.find.result ≡ computed E (examination E W V) = c.find.ensures ∙ ap (computed E) examined.1 in
+    let all = subst (Found E (examination E W V)) (sym is) (found laws g.G.Exponent.Exponent.laws same k W V examined.0) in
     record {
       drilled = (examined.0, all);
-      shown = drilled_shown laws g.Exponent.Exponent.laws same k W V (Ok (finding_meaning g.Exponent.Exponent.value c.find.result)) (examined.0, all);
+      shown = drilled_shown laws g.G.Exponent.Exponent.laws same k W V (Ok (finding_meaning g.G.Exponent.Exponent.value c.find.result)) (examined.0, all);
     }

@@ -13,11 +13,11 @@ returns-in_err-push g c =
 
 pub loop-j-preserved : goal.loop-j-preserved
 loop-j-preserved g c =
-    one_more_made (disjunctive_meaning g.G.Group.point g.Exponent.Exponent.number) (made_disjunctive_witness g.G.Group.operations g.Exponent.Exponent.exponents (comparison_meaning g.G.Group.point c.args.comparison) c.args.task) c.loop-j.j
+    one_more_made (disjunctive_meaning g.G.Group.point g.G.Exponent.Exponent.number) (made_disjunctive_witness g.G.Group.operations g.G.Exponent.Exponent.exponents (comparison_meaning g.G.Group.point c.args.comparison) c.args.task) c.loop-j.j
     (vec_items c.loop-j.witnesses) (vec_items c.push.new.self) c.make_disjunctive_witness.result
     c.in_ok-push.ensures.items c.loop-j.invariant c.make_disjunctive_witness.ensures
 
 pub returns : goal.returns
 returns g c =
     let done : c.loop-j.j ≡ 5 = omega arith in
-    c.loop-j.invariant ∙ ap (each_below (made_disjunctive_witness g.G.Group.operations g.Exponent.Exponent.exponents (comparison_meaning g.G.Group.point c.args.comparison) c.args.task)) done
+    c.loop-j.invariant ∙ ap (each_below (made_disjunctive_witness g.G.Group.operations g.G.Exponent.Exponent.exponents (comparison_meaning g.G.Group.point c.args.comparison) c.args.task)) done

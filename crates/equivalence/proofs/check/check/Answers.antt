@@ -8,10 +8,10 @@ use Rattle.equivalence.proofs.check.check.Goals as goal
 pub returns : goal.returns
 returns g c =
     let laws = g.G.Group.laws in
-    let E = g.Exponent.Exponent.exponents in
+    let E = g.G.Exponent.Exponent.exponents in
     let S = g.S.Source.words c.args.source.now in
     let k = comparison_meaning g.G.Group.point c.args.comparison in
-    let p = proofs_meaning g.G.Group.point g.Exponent.Exponent.number c.args.proofs in
+    let p = proofs_meaning g.G.Group.point g.G.Exponent.Exponent.number c.args.proofs in
     let within = c.check_within.ensures in
     let judged = judge g.G.Group.operations E S k p c.args.first in
     let width = c.code_width.ensures in

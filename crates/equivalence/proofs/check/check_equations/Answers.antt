@@ -9,8 +9,8 @@ pub returns-then-not-equivalence_holds : goal.returns-then-not-equivalence_holds
 returns-then-not-equivalence_holds g c =
     let G = g.G.Group.operations in
     let k = comparison_meaning g.G.Group.point c.args.comparison in
-    let p = proofs_meaning g.G.Group.point g.Exponent.Exponent.value c.args.proofs in
-    let d = draws_meaning g.Exponent.Exponent.value c.args.draws in
+    let p = proofs_meaning g.G.Group.point g.G.Exponent.Exponent.value c.args.proofs in
+    let d = draws_meaning g.G.Exponent.Exponent.value c.args.draws in
     product_fails _ G k p d c.args.place _
     (sym c.equivalence_holds.ensures ∙ c.if-not-equivalence_holds.true)
     c.at.ensures
@@ -19,8 +19,8 @@ pub returns-then-first-second : goal.returns-then-first-second
 returns-then-first-second g c =
     let G = g.G.Group.operations in
     let k = comparison_meaning g.G.Group.point c.args.comparison in
-    let p = proofs_meaning g.G.Group.point g.Exponent.Exponent.value c.args.proofs in
-    let d = draws_meaning g.Exponent.Exponent.value c.args.draws in
+    let p = proofs_meaning g.G.Group.point g.G.Exponent.Exponent.value c.args.proofs in
+    let d = draws_meaning g.G.Exponent.Exponent.value c.args.draws in
     split_fails _ G k p d c.args.place _
     (sym c.equivalence_holds.ensures ∙ c.if-not-equivalence_holds.false)
     (ne_eqb _ _ c.if-first-second.true)
@@ -30,8 +30,8 @@ pub returns-then-not-branch_holds : goal.returns-then-not-branch_holds
 returns-then-not-branch_holds g c =
     let G = g.G.Group.operations in
     let k = comparison_meaning g.G.Group.point c.args.comparison in
-    let p = proofs_meaning g.G.Group.point g.Exponent.Exponent.value c.args.proofs in
-    let d = draws_meaning g.Exponent.Exponent.value c.args.draws in
+    let p = proofs_meaning g.G.Group.point g.G.Exponent.Exponent.value c.args.proofs in
+    let d = draws_meaning g.G.Exponent.Exponent.value c.args.draws in
     first_fails _ G k p d c.args.place _
     (sym c.equivalence_holds.ensures ∙ c.if-not-equivalence_holds.false)
     (eq-eqb _ _ c.if-first-second.false)
@@ -42,8 +42,8 @@ pub returns-then-not-branch_holds-2 : goal.returns-then-not-branch_holds-2
 returns-then-not-branch_holds-2 g c =
     let G = g.G.Group.operations in
     let k = comparison_meaning g.G.Group.point c.args.comparison in
-    let p = proofs_meaning g.G.Group.point g.Exponent.Exponent.value c.args.proofs in
-    let d = draws_meaning g.Exponent.Exponent.value c.args.draws in
+    let p = proofs_meaning g.G.Group.point g.G.Exponent.Exponent.value c.args.proofs in
+    let d = draws_meaning g.G.Exponent.Exponent.value c.args.draws in
     second_fails _ G k p d c.args.place _
     (sym c.equivalence_holds.ensures ∙ c.if-not-equivalence_holds.false)
     (eq-eqb _ _ c.if-first-second.false)
@@ -55,8 +55,8 @@ pub returns : goal.returns
 returns g c =
     let G = g.G.Group.operations in
     let k = comparison_meaning g.G.Group.point c.args.comparison in
-    let p = proofs_meaning g.G.Group.point g.Exponent.Exponent.value c.args.proofs in
-    let d = draws_meaning g.Exponent.Exponent.value c.args.draws in
+    let p = proofs_meaning g.G.Group.point g.G.Exponent.Exponent.value c.args.proofs in
+    let d = draws_meaning g.G.Exponent.Exponent.value c.args.draws in
     let none = none_fails G k p d
     (sym c.equivalence_holds.ensures ∙ c.if-not-equivalence_holds.false)
     (eq-eqb _ _ c.if-first-second.false)

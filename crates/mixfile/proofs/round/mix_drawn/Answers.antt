@@ -24,10 +24,10 @@ returns-in-Err-next_draws g c =
 pub returns : goal.returns
 returns g c =
     let point = g.G.Group.point in
-    let number = g.Exponent.Exponent.number in
+    let number = g.G.Exponent.Exponent.number in
     let cs = g.P.Plan.listing c.args.plan.now in
     let n = g.P.Plan.width c.args.plan.now in
-    let T = λ (S : Words). terms g.G.Group.operations g.Exponent.Exponent.exponents S (point c.args.board.now.key) cs in
+    let T = λ (S : Words). terms g.G.Group.operations g.G.Exponent.Exponent.exponents S (point c.args.board.now.key) cs in
     let s = state_map (meaning point) (view c.args.board.now) in
     let before = vec_items c.args.lines in
     let q = place c.next_draws-2.new.reader in

@@ -20,8 +20,8 @@ returns-in-Ok g c =
     let o = c.args.opening in
     let q = place c.args.reader in
     let G = g.G.Group.operations in
-    let E = g.Exponent.Exponent.exponents in
-    let number = g.Exponent.Exponent.number in
+    let E = g.G.Exponent.Exponent.exponents in
+    let number = g.G.Exponent.Exponent.number in
     let kind : Some Chain ≡ plan_kind o.plan = ap Some (sym c.in-Chain.is) ∙ c.in-Some.ensures in
     let m = c.in-Ok.plan.width in
     let width : m ≡ o.wires = c.in-Ok.ensures.0 in
@@ -41,7 +41,7 @@ returns-in-Err g c =
     let told = c.in-Err.ensures in
     inl (
       [],
-      subst (λ (k : Option PlanKind). ChecksPlan g.G.Group.operations g.Exponent.Exponent.exponents g.Exponent.Exponent.number k c.args.offset o q [] (Refused c.at-in-Err.result)) kind
+      subst (λ (k : Option PlanKind). ChecksPlan g.G.Group.operations g.G.Exponent.Exponent.exponents g.G.Exponent.Exponent.number k c.args.offset o q [] (Refused c.at-in-Err.result)) kind
           (inr (λ cs h. told.0 h.0, (refl, ap Refused (c.at-in-Err.ensures ∙ ap (λ (x : Refusal). refused_at x.reason c.args.offset) told.1)))),
     )
 
@@ -50,8 +50,8 @@ returns-in-Ok-new g c =
     let o = c.args.opening in
     let q = place c.args.reader in
     let G = g.G.Group.operations in
-    let E = g.Exponent.Exponent.exponents in
-    let number = g.Exponent.Exponent.number in
+    let E = g.G.Exponent.Exponent.exponents in
+    let number = g.G.Exponent.Exponent.number in
     let kind : Some Butterfly ≡ plan_kind o.plan = ap Some (sym c.in-Butterfly.is) ∙ c.in-Some.ensures in
     let k = c.in-Ok-new.plan.levels in
     let width : 2 ^ k ≡ o.wires = c.in-Ok-new.ensures.0 in
@@ -71,6 +71,6 @@ returns-in-Err-new g c =
     let told = c.in-Err-new.ensures in
     inl (
       [],
-      subst (λ (k : Option PlanKind). ChecksPlan g.G.Group.operations g.Exponent.Exponent.exponents g.Exponent.Exponent.number k c.args.offset o q [] (Refused c.at-in-Err-new.result)) kind
+      subst (λ (k : Option PlanKind). ChecksPlan g.G.Group.operations g.G.Exponent.Exponent.exponents g.G.Exponent.Exponent.number k c.args.offset o q [] (Refused c.at-in-Err-new.result)) kind
           (inr (λ cs h. told.0 h.0 h.1 h.2 h.3, (refl, ap Refused (c.at-in-Err-new.ensures ∙ ap (λ (x : Refusal). refused_at x.reason c.args.offset) told.1)))),
     )

@@ -26,16 +26,16 @@ returns-in-Err-open g c =
     ap₂ (λ (a b : ℕ). judge_open G n c.args.opening.servers y a b) (sym wires) (sym start) ∙ was_refused _ _ _ _ c.in-Err-open.ensures in
     inl (
       [],
-      refused_round G g.Exponent.Exponent.exponents g.Exponent.Exponent.number n (g.P.Plan.listing c.args.plan.now) c.args.offset c.args.opening (place c.args.reader) y
+      refused_round G g.G.Exponent.Exponent.exponents g.G.Exponent.Exponent.number n (g.P.Plan.listing c.args.plan.now) c.args.offset c.args.opening (place c.args.reader) y
           c.in-Err-open.refusal.reason c.at.result [] (Refused c.at.result) c.in-Ok.ensures judged c.at.ensures (refl, refl),
     )
 
 pub returns : goal.returns
 returns g c =
     let G = g.G.Group.operations in
-    let E = g.Exponent.Exponent.exponents in
+    let E = g.G.Exponent.Exponent.exponents in
     let point = g.G.Group.point in
-    let number = g.Exponent.Exponent.number in
+    let number = g.G.Exponent.Exponent.number in
     let n = g.P.Plan.width c.args.plan.now in
     let cs = g.P.Plan.listing c.args.plan.now in
     let y = point c.in-Ok.key in

@@ -7,7 +7,7 @@ use Rattle.mixfile.proofs.turn.step_record.Goals as goal
 
 pub returns-in-Ok : goal.returns-in-Ok
 returns-in-Ok g c =
-    let number = g.Exponent.Exponent.number in
+    let number = g.G.Exponent.Exponent.number in
     let m = message_meaning g.G.Group.point number c.in_ok-message.message in
     let made : c.write.new.buffer ≡ comparator_bytes c.in_ok-record.record = search rules in
     let read = subst (λ (x : Message ℕ ℕ). MessageRead g.G.Group.operations number x m) (sym c.in_ok-record.ensures) c.in_ok-codes.ensures in

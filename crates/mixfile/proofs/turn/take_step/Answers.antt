@@ -16,7 +16,7 @@ pub returns-in-Err : goal.returns-in-Err
 returns-in-Err g c =
     let point = g.G.Group.point in
     let b = c.args.board.now in
-    let T = terms g.G.Group.operations g.Exponent.Exponent.exponents (g.S.Source.words c.args.source.now) (point b.key) (g.P.Plan.listing c.args.plan.now) in
+    let T = terms g.G.Group.operations g.G.Exponent.Exponent.exponents (g.S.Source.words c.args.source.now) (point b.key) (g.P.Plan.listing c.args.plan.now) in
     let told = c.in-Err.ensures in
     record {
       taken = step_stopped T (state_map (meaning point) (view b)) (length c.args.words.now) (length c.args.buffer.now) b.next _ c.in-Err.refusal told.outcome;
@@ -26,9 +26,9 @@ returns-in-Err g c =
 pub returns-in-Ok-call : goal.returns-in-Ok-call
 returns-in-Ok-call g c =
     let point = g.G.Group.point in
-    let number = g.Exponent.Exponent.number in
+    let number = g.G.Exponent.Exponent.number in
     let b = c.args.board.now in
-    let terms-of = λ (k : g.row.G-Element.Denot). terms g.G.Group.operations g.Exponent.Exponent.exponents (g.S.Source.words c.args.source.now) (point k) (g.P.Plan.listing c.args.plan.now) in
+    let terms-of = λ (k : g.row.G-Element.Denot). terms g.G.Group.operations g.G.Exponent.Exponent.exponents (g.S.Source.words c.args.source.now) (point k) (g.P.Plan.listing c.args.plan.now) in
     let s = state_map (meaning point) (view b) in
     let s' = state_map (meaning point) (view c.call.new.board) in
     let told = c.in-Ok.ensures in

@@ -15,9 +15,9 @@ returns g c =
     let G = g.G.Group.operations in
     let P = g.G.Group.Point in
     let point = g.G.Group.point in
-    let E = g.Exponent.Exponent.exponents in
-    let number = g.Exponent.Exponent.number in
-    let value = g.Exponent.Exponent.value in
+    let E = g.G.Exponent.Exponent.exponents in
+    let number = g.G.Exponent.Exponent.number in
+    let value = g.G.Exponent.Exponent.value in
     let S = g.S.Source.words c.args.source.now in
     let y = point c.args.key in
     let inputs = pair_meaning point c.args.inputs in
@@ -31,7 +31,7 @@ returns g c =
     let Answered : Committed P ℕ → ℕ → Type 0 = λ k n. Outcome (unready G S k.question n) c.args.place (λ m. message_meaning point number m ≡ answer_message G E S k) c.answer.result in
     let outcome : Outcome (unready G S question bytes) c.args.place (λ m. message_meaning point number m ≡ honest_message G E S y inputs c.args.setting secrets question) c.answer.result =
     subst (λ k. Answered k bytes) same (subst (Answered (committed_meaning point value c.in_ok-committed.committed)) c.commit.auto.buffer c.answer.ensures.outcome) in
-    let exponents = g.Exponent.Exponent.laws in
+    let exponents = g.G.Exponent.Exponent.laws in
     let order = c.in_ok-committed.ensures.same_order in
     let positive : 0 < E.order = let h = g.G.Group.laws.some_order in omega (arith, order) in
     let fit : Fit E secrets = record { answer_below = mod-lt _ positive; challenge_below = mod-lt _ (pow_pos E.challenge_bits) } in

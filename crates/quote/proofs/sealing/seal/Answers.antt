@@ -15,7 +15,7 @@ proper G key v n e is apart one = apart (is ∙ ap (power G G.base) e ∙ one)
 
 pub returns-in_err-gamma : goal.returns-in_err-gamma
 returns-in_err-gamma g c =
-    let E = g.Exponent.Exponent in
+    let E = g.G.Exponent.Exponent in
     let point = g.G.Group.point in
     let private = c.in_ok-private.ensures in
     let key = c.in_ok-key.ensures in
@@ -29,7 +29,7 @@ returns-in_err-gamma g c =
 
 pub returns-in_err-r : goal.returns-in_err-r
 returns-in_err-r g c =
-    let E = g.Exponent.Exponent in
+    let E = g.G.Exponent.Exponent in
     let point = g.G.Group.point in
     let private = c.in_ok-private.ensures in
     let key = c.in_ok-key.ensures in
@@ -44,7 +44,7 @@ returns-in_err-r g c =
 
 pub returns : goal.returns
 returns g c =
-    let E = g.Exponent.Exponent in
+    let E = g.G.Exponent.Exponent in
     let G = g.G.Group.operations in
     let point = g.G.Group.point in
     let private = c.in_ok-private.ensures in

@@ -10,9 +10,9 @@ use Rattle.roundcheck.proofs.records.judge_record.Goals as goal
 pub returns-in-Err : goal.returns-in-Err
 returns-in-Err g c =
     let point = g.G.Group.point in
-    let number = g.Exponent.Exponent.number in
+    let number = g.G.Exponent.Exponent.number in
     let b = c.args.board.now in
-    let T = terms g.G.Group.operations g.Exponent.Exponent.exponents (g.S.Source.words c.args.source.now) (point b.key) (g.P.Plan.listing c.args.plan.now) in
+    let T = terms g.G.Group.operations g.G.Exponent.Exponent.exponents (g.S.Source.words c.args.source.now) (point b.key) (g.P.Plan.listing c.args.plan.now) in
     let s = state_map (meaning point) (view b) in
     let s' = state_map (meaning point) (view c.call.new.board) in
     let f = found_in c.args.entry in

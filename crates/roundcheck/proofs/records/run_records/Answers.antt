@@ -15,8 +15,8 @@ loop-next-init g c = (refl, begun _ _ _ _ _)
 pub returns-in_default : goal.returns-in_default
 returns-in_default g c =
     let point = g.G.Group.point in
-    let number = g.Exponent.Exponent.number in
-    let terms-of = λ (k : g.row.G-Element.Denot). terms g.G.Group.operations g.Exponent.Exponent.exponents (g.S.Source.words c.args.source.now) (point k) (g.P.Plan.listing c.args.plan.now) in
+    let number = g.G.Exponent.Exponent.number in
+    let terms-of = λ (k : g.row.G-Element.Denot). terms g.G.Group.operations g.G.Exponent.Exponent.exponents (g.S.Source.words c.args.source.now) (point k) (g.P.Plan.listing c.args.plan.now) in
     let T = terms-of c.args.board.now.key in
     let p₀ = place c.args.reader in
     let s₀ = state_map (meaning point) (view c.args.board.now) in
@@ -30,8 +30,8 @@ returns-in_default g c =
 pub returns-in-Err : goal.returns-in-Err
 returns-in-Err g c =
     let point = g.G.Group.point in
-    let number = g.Exponent.Exponent.number in
-    let terms-of = λ (k : g.row.G-Element.Denot). terms g.G.Group.operations g.Exponent.Exponent.exponents (g.S.Source.words c.args.source.now) (point k) (g.P.Plan.listing c.args.plan.now) in
+    let number = g.G.Exponent.Exponent.number in
+    let terms-of = λ (k : g.row.G-Element.Denot). terms g.G.Group.operations g.G.Exponent.Exponent.exponents (g.S.Source.words c.args.source.now) (point k) (g.P.Plan.listing c.args.plan.now) in
     let T = terms-of c.args.board.now.key in
     let p₀ = place c.args.reader in
     let s₀ = state_map (meaning point) (view c.args.board.now) in
@@ -45,8 +45,8 @@ returns-in-Err g c =
 pub loop-next-preserved : goal.loop-next-preserved
 loop-next-preserved g c =
     let point = g.G.Group.point in
-    let number = g.Exponent.Exponent.number in
-    let terms-of = λ (k : g.row.G-Element.Denot). terms g.G.Group.operations g.Exponent.Exponent.exponents (g.S.Source.words c.args.source.now) (point k) (g.P.Plan.listing c.args.plan.now) in
+    let number = g.G.Exponent.Exponent.number in
+    let terms-of = λ (k : g.row.G-Element.Denot). terms g.G.Group.operations g.G.Exponent.Exponent.exponents (g.S.Source.words c.args.source.now) (point k) (g.P.Plan.listing c.args.plan.now) in
     let T = terms-of c.args.board.now.key in
     let p₀ = place c.args.reader in
     let s₀ = state_map (meaning point) (view c.args.board.now) in
@@ -68,8 +68,8 @@ loop-next-preserved g c =
 pub returns-in-Err-judge_record : goal.returns-in-Err-judge_record
 returns-in-Err-judge_record g c =
     let point = g.G.Group.point in
-    let number = g.Exponent.Exponent.number in
-    let terms-of = λ (k : g.row.G-Element.Denot). terms g.G.Group.operations g.Exponent.Exponent.exponents (g.S.Source.words c.args.source.now) (point k) (g.P.Plan.listing c.args.plan.now) in
+    let number = g.G.Exponent.Exponent.number in
+    let terms-of = λ (k : g.row.G-Element.Denot). terms g.G.Group.operations g.G.Exponent.Exponent.exponents (g.S.Source.words c.args.source.now) (point k) (g.P.Plan.listing c.args.plan.now) in
     let T = terms-of c.args.board.now.key in
     let p₀ = place c.args.reader in
     let s₀ = state_map (meaning point) (view c.args.board.now) in

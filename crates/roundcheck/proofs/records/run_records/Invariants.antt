@@ -9,9 +9,9 @@ use Rattle.roundcheck.proofs.records.run_records.Given as goal
 abbrev pub invariant-loop-next : goal.invariant-loop-next
 invariant-loop-next g l =
     let point = g.G.Group.point in
-    let T = terms g.G.Group.operations g.Exponent.Exponent.exponents (g.S.Source.words l.source) (point l.initial.board.key) (g.P.Plan.listing l.plan) in
+    let T = terms g.G.Group.operations g.G.Exponent.Exponent.exponents (g.S.Source.words l.source) (point l.initial.board.key) (g.P.Plan.listing l.plan) in
     (l.board.key ≡ l.initial.board.key)
-    × SoFar T g.Exponent.Exponent.number (place l.initial.reader) (state_map (meaning point) (view l.initial.board)) (vec_items l.initial.lines) (place l.reader) (state_map (meaning point) (view l.board)) (vec_items l.lines)
+    × SoFar T g.G.Exponent.Exponent.number (place l.initial.reader) (state_map (meaning point) (view l.initial.board)) (vec_items l.initial.lines) (place l.reader) (state_map (meaning point) (view l.board)) (vec_items l.lines)
 
 abbrev pub decreases-loop-next : goal.decreases-loop-next
 decreases-loop-next g l = length l.reader.rest.now

@@ -21,15 +21,15 @@ returns-in-Err-open g c =
     let judged : judge_open G n c.args.opening.servers y n n ≡ Some c.in-Err-open.refusal.reason =
     ap₂ (λ (a b : ℕ). judge_open G n c.args.opening.servers y a b) (sym wires) (sym start) ∙ was_refused _ _ _ _ c.in-Err-open.ensures in
     let made = c.refused-in-Err-open.ensures in
-    refused_round G g.Exponent.Exponent.exponents g.Exponent.Exponent.number n (g.P.Plan.listing c.args.plan.now) c.args.offset c.args.opening (place c.args.reader) y
+    refused_round G g.G.Exponent.Exponent.exponents g.G.Exponent.Exponent.number n (g.P.Plan.listing c.args.plan.now) c.args.offset c.args.opening (place c.args.reader) y
     c.in-Err-open.refusal.reason c.at.result _ _ c.in-Ok.ensures judged c.at.ensures (made.0 ∙ c.new-lines.ensures.items, made.1)
 
 pub returns : goal.returns
 returns g c =
     let G = g.G.Group.operations in
-    let E = g.Exponent.Exponent.exponents in
+    let E = g.G.Exponent.Exponent.exponents in
     let point = g.G.Group.point in
-    let number = g.Exponent.Exponent.number in
+    let number = g.G.Exponent.Exponent.number in
     let n = g.P.Plan.width c.args.plan.now in
     let cs = g.P.Plan.listing c.args.plan.now in
     let y = point c.in-Ok.key in

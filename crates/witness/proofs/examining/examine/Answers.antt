@@ -8,9 +8,9 @@ use Rattle.witness.proofs.examining.examine.Goals as goal
 pub returns-then-equivalence-ne3 : goal.returns-then-equivalence-ne3
 returns-then-equivalence-ne3 g c =
     let G = g.G.Group.operations in
-    let E = g.Exponent.Exponent.exponents in
+    let E = g.G.Exponent.Exponent.exponents in
     let point = g.G.Group.point in
-    let number = g.Exponent.Exponent.number in
+    let number = g.G.Exponent.Exponent.number in
     let k = comparison_meaning point c.args.comparison in
     let W = map (equivalence_meaning point number) c.args.equivalence.now in
     let V = map (disjunctive_meaning point number) c.args.disjunction.now in
@@ -21,9 +21,9 @@ returns-then-equivalence-ne3 g c =
 pub returns-then-disjunction-ne5 : goal.returns-then-disjunction-ne5
 returns-then-disjunction-ne5 g c =
     let G = g.G.Group.operations in
-    let E = g.Exponent.Exponent.exponents in
+    let E = g.G.Exponent.Exponent.exponents in
     let point = g.G.Group.point in
-    let number = g.Exponent.Exponent.number in
+    let number = g.G.Exponent.Exponent.number in
     let k = comparison_meaning point c.args.comparison in
     let W = map (equivalence_meaning point number) c.args.equivalence.now in
     let V = map (disjunctive_meaning point number) c.args.disjunction.now in
@@ -34,9 +34,9 @@ returns-then-disjunction-ne5 g c =
 pub returns-in_err-product : goal.returns-in_err-product
 returns-in_err-product g c =
     let G = g.G.Group.operations in
-    let E = g.Exponent.Exponent.exponents in
+    let E = g.G.Exponent.Exponent.exponents in
     let point = g.G.Group.point in
-    let number = g.Exponent.Exponent.number in
+    let number = g.G.Exponent.Exponent.number in
     let k = comparison_meaning point c.args.comparison in
     let W = map (equivalence_meaning point number) c.args.equivalence.now in
     let V = map (disjunctive_meaning point number) c.args.disjunction.now in
@@ -48,9 +48,9 @@ returns-in_err-product g c =
 pub returns-in_err-branch : goal.returns-in_err-branch
 returns-in_err-branch g c =
     let G = g.G.Group.operations in
-    let E = g.Exponent.Exponent.exponents in
+    let E = g.G.Exponent.Exponent.exponents in
     let point = g.G.Group.point in
-    let number = g.Exponent.Exponent.number in
+    let number = g.G.Exponent.Exponent.number in
     let k = comparison_meaning point c.args.comparison in
     let W = map (equivalence_meaning point number) c.args.equivalence.now in
     let V = map (disjunctive_meaning point number) c.args.disjunction.now in
@@ -63,9 +63,9 @@ returns-in_err-branch g c =
 pub returns : goal.returns
 returns g c =
     let G = g.G.Group.operations in
-    let E = g.Exponent.Exponent.exponents in
+    let E = g.G.Exponent.Exponent.exponents in
     let point = g.G.Group.point in
-    let number = g.Exponent.Exponent.number in
+    let number = g.G.Exponent.Exponent.number in
     let k = comparison_meaning point c.args.comparison in
     let W = map (equivalence_meaning point number) c.args.equivalence.now in
     let V = map (disjunctive_meaning point number) c.args.disjunction.now in

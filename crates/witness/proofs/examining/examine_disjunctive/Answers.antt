@@ -20,9 +20,9 @@ returns-then-not-disjunction_holds g c =
     let G = g.G.Group.operations in
     let point = g.G.Group.point in
     let k = comparison_meaning point c.args.comparison in
-    let w = disjunctive_meaning point g.Exponent.Exponent.number c.args.witness in
+    let w = disjunctive_meaning point g.G.Exponent.Exponent.number c.args.witness in
     let read = c.in-Some.ensures in
-    let same : disjunctive_meaning point g.Exponent.Exponent.value c.in-Some.read ≡ w = ap (disjunctive_meaning point (λ n. n)) read.1 in
+    let same : disjunctive_meaning point g.G.Exponent.Exponent.value c.in-Some.read ≡ w = ap (disjunctive_meaning point (λ n. n)) read.1 in
     let holds : disjunction_accepted G k w.z w.Answered ≡ c.disjunction_holds.result =
     ap (λ w. disjunction_accepted G k w.z w.Answered) (sym same) ∙ sym c.disjunction_holds.ensures in
     ap (at_place c.args.place) (unaccepted _ _ _ _ read.0
@@ -35,15 +35,15 @@ returns g c =
     let G = g.G.Group.operations in
     let point = g.G.Group.point in
     let k = comparison_meaning point c.args.comparison in
-    let w = disjunctive_meaning point g.Exponent.Exponent.number c.args.witness in
+    let w = disjunctive_meaning point g.G.Exponent.Exponent.number c.args.witness in
     let read = c.in-Some.ensures in
-    let same : disjunctive_meaning point g.Exponent.Exponent.value c.in-Some.read ≡ w = ap (disjunctive_meaning point (λ n. n)) read.1 in
+    let same : disjunctive_meaning point g.G.Exponent.Exponent.value c.in-Some.read ≡ w = ap (disjunctive_meaning point (λ n. n)) read.1 in
     let holds : disjunction_accepted G k w.z w.Answered ≡ c.disjunction_holds.result =
     ap (λ w. disjunction_accepted G k w.z w.Answered) (sym same) ∙ sym c.disjunction_holds.ensures in (
       nothing_refused _ _ _ _ read.0
           (λ e. c.if-challenges.false (ap (λ w. w.Answered.challenges.first) read.1 ∙ e ∙ sym (ap (λ w. w.Answered.challenges.second) read.1)))
           (holds ∙ c.if-not-disjunction_holds.false),
       c.draw_of.ensures
-          ∙ drawn_at g.Exponent.Exponent.exponents point (disjunctive_meaning (λ e. e) g.Exponent.Exponent.value c.in-Some.read)
-          ∙ ap (drawn g.Exponent.Exponent.exponents) same,
+          ∙ drawn_at g.G.Exponent.Exponent.exponents point (disjunctive_meaning (λ e. e) g.G.Exponent.Exponent.value c.in-Some.read)
+          ∙ ap (drawn g.G.Exponent.Exponent.exponents) same,
     )

@@ -10,9 +10,9 @@ use Rattle.witness.proofs.examining.examine_disjunctives.Goals as goal
 pub returns-in_err-check_draws : goal.returns-in_err-check_draws
 returns-in_err-check_draws g c =
     let G = g.G.Group.operations in
-    let E = g.Exponent.Exponent.exponents in
+    let E = g.G.Exponent.Exponent.exponents in
     let point = g.G.Group.point in
-    let number = g.Exponent.Exponent.number in
+    let number = g.G.Exponent.Exponent.number in
     let k = comparison_meaning point c.args.comparison in
     let ws = c.args.witnesses.now in
     let m = disjunctive_meaning point number in
@@ -24,9 +24,9 @@ returns-in_err-check_draws g c =
 pub returns-in_err-a : goal.returns-in_err-a
 returns-in_err-a g c =
     let G = g.G.Group.operations in
-    let E = g.Exponent.Exponent.exponents in
+    let E = g.G.Exponent.Exponent.exponents in
     let point = g.G.Group.point in
-    let number = g.Exponent.Exponent.number in
+    let number = g.G.Exponent.Exponent.number in
     let k = comparison_meaning point c.args.comparison in
     let ws = c.args.witnesses.now in
     let m = disjunctive_meaning point number in
@@ -39,9 +39,9 @@ returns-in_err-a g c =
 pub returns-in_err-b : goal.returns-in_err-b
 returns-in_err-b g c =
     let G = g.G.Group.operations in
-    let E = g.Exponent.Exponent.exponents in
+    let E = g.G.Exponent.Exponent.exponents in
     let point = g.G.Group.point in
-    let number = g.Exponent.Exponent.number in
+    let number = g.G.Exponent.Exponent.number in
     let k = comparison_meaning point c.args.comparison in
     let ws = c.args.witnesses.now in
     let m = disjunctive_meaning point number in
@@ -55,9 +55,9 @@ returns-in_err-b g c =
 pub returns-in_err-c : goal.returns-in_err-c
 returns-in_err-c g c =
     let G = g.G.Group.operations in
-    let E = g.Exponent.Exponent.exponents in
+    let E = g.G.Exponent.Exponent.exponents in
     let point = g.G.Group.point in
-    let number = g.Exponent.Exponent.number in
+    let number = g.G.Exponent.Exponent.number in
     let k = comparison_meaning point c.args.comparison in
     let ws = c.args.witnesses.now in
     let m = disjunctive_meaning point number in
@@ -72,9 +72,9 @@ returns-in_err-c g c =
 pub returns-in_err-d : goal.returns-in_err-d
 returns-in_err-d g c =
     let G = g.G.Group.operations in
-    let E = g.Exponent.Exponent.exponents in
+    let E = g.G.Exponent.Exponent.exponents in
     let point = g.G.Group.point in
-    let number = g.Exponent.Exponent.number in
+    let number = g.G.Exponent.Exponent.number in
     let k = comparison_meaning point c.args.comparison in
     let ws = c.args.witnesses.now in
     let m = disjunctive_meaning point number in
@@ -90,9 +90,9 @@ returns-in_err-d g c =
 pub returns-in_err-e : goal.returns-in_err-e
 returns-in_err-e g c =
     let G = g.G.Group.operations in
-    let E = g.Exponent.Exponent.exponents in
+    let E = g.G.Exponent.Exponent.exponents in
     let point = g.G.Group.point in
-    let number = g.Exponent.Exponent.number in
+    let number = g.G.Exponent.Exponent.number in
     let k = comparison_meaning point c.args.comparison in
     let ws = c.args.witnesses.now in
     let m = disjunctive_meaning point number in
@@ -109,9 +109,9 @@ returns-in_err-e g c =
 pub returns : goal.returns
 returns g c =
     let G = g.G.Group.operations in
-    let E = g.Exponent.Exponent.exponents in
+    let E = g.G.Exponent.Exponent.exponents in
     let point = g.G.Group.point in
-    let number = g.Exponent.Exponent.number in
+    let number = g.G.Exponent.Exponent.number in
     let k = comparison_meaning point c.args.comparison in
     let ws = c.args.witnesses.now in
     let m = disjunctive_meaning point number in

@@ -19,9 +19,9 @@ pub returns-then-not-product_holds : goal.returns-then-not-product_holds
 returns-then-not-product_holds g c =
     let G = g.G.Group.operations in
     let point = g.G.Group.point in
-    let value = g.Exponent.Exponent.value in
+    let value = g.G.Exponent.Exponent.value in
     let k = comparison_meaning point c.args.comparison in
-    let w = equivalence_meaning point g.Exponent.Exponent.number c.args.witness in
+    let w = equivalence_meaning point g.G.Exponent.Exponent.number c.args.witness in
     let read = c.in-Some.ensures in
     let same : equivalence_meaning point value c.in-Some.read ≡ w = ap (equivalence_meaning point (λ n. n)) read.1 in
     let holds : product_accepted G k w.z w.Answered ≡ c.product_holds.result =
@@ -34,11 +34,11 @@ returns-then-not-product_holds g c =
 pub returns : goal.returns
 returns g c =
     let G = g.G.Group.operations in
-    let E = g.Exponent.Exponent.exponents in
+    let E = g.G.Exponent.Exponent.exponents in
     let point = g.G.Group.point in
-    let value = g.Exponent.Exponent.value in
+    let value = g.G.Exponent.Exponent.value in
     let k = comparison_meaning point c.args.comparison in
-    let w = equivalence_meaning point g.Exponent.Exponent.number c.args.witness in
+    let w = equivalence_meaning point g.G.Exponent.Exponent.number c.args.witness in
     let read = c.in-Some.ensures in
     let same : equivalence_meaning point value c.in-Some.read ≡ w = ap (equivalence_meaning point (λ n. n)) read.1 in
     let holds : product_accepted G k w.z w.Answered ≡ c.product_holds.result =

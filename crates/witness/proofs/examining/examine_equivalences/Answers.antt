@@ -10,9 +10,9 @@ use Rattle.witness.proofs.examining.examine_equivalences.Goals as goal
 pub returns-in_err-check_draws : goal.returns-in_err-check_draws
 returns-in_err-check_draws g c =
     let G = g.G.Group.operations in
-    let E = g.Exponent.Exponent.exponents in
+    let E = g.G.Exponent.Exponent.exponents in
     let point = g.G.Group.point in
-    let number = g.Exponent.Exponent.number in
+    let number = g.G.Exponent.Exponent.number in
     let k = comparison_meaning point c.args.comparison in
     let ws = c.args.witnesses.now in
     let m = equivalence_meaning point number in
@@ -24,9 +24,9 @@ returns-in_err-check_draws g c =
 pub returns-in_err-first : goal.returns-in_err-first
 returns-in_err-first g c =
     let G = g.G.Group.operations in
-    let E = g.Exponent.Exponent.exponents in
+    let E = g.G.Exponent.Exponent.exponents in
     let point = g.G.Group.point in
-    let number = g.Exponent.Exponent.number in
+    let number = g.G.Exponent.Exponent.number in
     let k = comparison_meaning point c.args.comparison in
     let ws = c.args.witnesses.now in
     let m = equivalence_meaning point number in
@@ -39,9 +39,9 @@ returns-in_err-first g c =
 pub returns-in_err-second : goal.returns-in_err-second
 returns-in_err-second g c =
     let G = g.G.Group.operations in
-    let E = g.Exponent.Exponent.exponents in
+    let E = g.G.Exponent.Exponent.exponents in
     let point = g.G.Group.point in
-    let number = g.Exponent.Exponent.number in
+    let number = g.G.Exponent.Exponent.number in
     let k = comparison_meaning point c.args.comparison in
     let ws = c.args.witnesses.now in
     let m = equivalence_meaning point number in
@@ -55,9 +55,9 @@ returns-in_err-second g c =
 pub returns-in_err-third : goal.returns-in_err-third
 returns-in_err-third g c =
     let G = g.G.Group.operations in
-    let E = g.Exponent.Exponent.exponents in
+    let E = g.G.Exponent.Exponent.exponents in
     let point = g.G.Group.point in
-    let number = g.Exponent.Exponent.number in
+    let number = g.G.Exponent.Exponent.number in
     let k = comparison_meaning point c.args.comparison in
     let ws = c.args.witnesses.now in
     let m = equivalence_meaning point number in
@@ -72,9 +72,9 @@ returns-in_err-third g c =
 pub returns : goal.returns
 returns g c =
     let G = g.G.Group.operations in
-    let E = g.Exponent.Exponent.exponents in
+    let E = g.G.Exponent.Exponent.exponents in
     let point = g.G.Group.point in
-    let number = g.Exponent.Exponent.number in
+    let number = g.G.Exponent.Exponent.number in
     let k = comparison_meaning point c.args.comparison in
     let ws = c.args.witnesses.now in
     let m = equivalence_meaning point number in

@@ -11,9 +11,9 @@ pub returns-in-Gathering-Post : goal.returns-in-Gathering-Post
 returns-in-Gathering-Post g c =
     let point = g.G.Group.point in
     let b = c.args.board.now in
-    let T = terms g.G.Group.operations g.Exponent.Exponent.exponents (g.S.Source.words c.args.source.now) (point b.key) (g.P.Plan.listing c.args.plan.now) in
+    let T = terms g.G.Group.operations g.G.Exponent.Exponent.exponents (g.S.Source.words c.args.source.now) (point b.key) (g.P.Plan.listing c.args.plan.now) in
     let bytes = length c.args.buffer.now in
-    let done = λ (e : Event g.row.G-Element.Denot _). Happens T (state_map (meaning point) (view b)) (event_meaning point g.Exponent.Exponent.number e) bytes c.post.result (state_map (meaning point) (view c.post.new.self)) in
+    let done = λ (e : Event g.row.G-Element.Denot _). Happens T (state_map (meaning point) (view b)) (event_meaning point g.G.Exponent.Exponent.number e) bytes c.post.result (state_map (meaning point) (view c.post.new.self)) in
     record {
       happens = subst done (sym c.in-Gathering-Post.is-1) (post_happens T point (view b) (view c.post.new.self) bytes c.in-Gathering-Post.quote c.post.result c.in-Gathering-Post.is-0 c.post.ensures.outcome);
       key = c.post.ensures.key;
@@ -24,9 +24,9 @@ pub returns-in-Gathering-Close : goal.returns-in-Gathering-Close
 returns-in-Gathering-Close g c =
     let point = g.G.Group.point in
     let b = c.args.board.now in
-    let T = terms g.G.Group.operations g.Exponent.Exponent.exponents (g.S.Source.words c.args.source.now) (point b.key) (g.P.Plan.listing c.args.plan.now) in
+    let T = terms g.G.Group.operations g.G.Exponent.Exponent.exponents (g.S.Source.words c.args.source.now) (point b.key) (g.P.Plan.listing c.args.plan.now) in
     let bytes = length c.args.buffer.now in
-    let done = λ (e : Event g.row.G-Element.Denot _). Happens T (state_map (meaning point) (view b)) (event_meaning point g.Exponent.Exponent.number e) bytes c.close.result (state_map (meaning point) (view c.close.new.self)) in
+    let done = λ (e : Event g.row.G-Element.Denot _). Happens T (state_map (meaning point) (view b)) (event_meaning point g.G.Exponent.Exponent.number e) bytes c.close.result (state_map (meaning point) (view c.close.new.self)) in
     record {
       happens = subst done (sym c.in-Gathering-Close.is-1) (close_happens T point (view b) (view c.close.new.self) bytes c.close.result c.in-Gathering-Close.is-0 c.close.ensures.outcome);
       key = c.close.ensures.key;
@@ -37,12 +37,12 @@ pub returns-in-Turning-Step : goal.returns-in-Turning-Step
 returns-in-Turning-Step g c =
     let point = g.G.Group.point in
     let b = c.args.board.now in
-    let T = terms g.G.Group.operations g.Exponent.Exponent.exponents (g.S.Source.words c.args.source.now) (point b.key) (g.P.Plan.listing c.args.plan.now) in
+    let T = terms g.G.Group.operations g.G.Exponent.Exponent.exponents (g.S.Source.words c.args.source.now) (point b.key) (g.P.Plan.listing c.args.plan.now) in
     let bytes = length c.args.buffer.now in
     let message = c.in_default-Step.field-0-1 in
-    let m = message_meaning point g.Exponent.Exponent.number message in
+    let m = message_meaning point g.G.Exponent.Exponent.number message in
     let width = c.code_width.ensures in
-    let done = λ (e : Event g.row.G-Element.Denot _). Happens T (state_map (meaning point) (view b)) (event_meaning point g.Exponent.Exponent.number e) bytes c.step.result (state_map (meaning point) (view c.step.new.board)) in
+    let done = λ (e : Event g.row.G-Element.Denot _). Happens T (state_map (meaning point) (view b)) (event_meaning point g.G.Exponent.Exponent.number e) bytes c.step.result (state_map (meaning point) (view c.step.new.board)) in
     record {
       happens = subst done (sym c.in_default-Step.is-1) (step_happens T point (view b) (view c.step.new.board) bytes m message.outputs refl c.step.result c.in-Turning-Step.is-0 (omega (arith, c.if-short.false)) c.step.ensures.happens);
       key = c.step.ensures.key;

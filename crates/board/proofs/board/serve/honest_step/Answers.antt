@@ -23,7 +23,7 @@ pub returns-in_default : goal.returns-in_default
 returns-in_default g c =
     let point = g.G.Group.point in
     let b = c.args.board.now in
-    let T = terms g.G.Group.operations g.Exponent.Exponent.exponents (g.S.Source.words c.args.source.now) (point b.key) (g.P.Plan.listing c.args.plan.now) in
+    let T = terms g.G.Group.operations g.G.Exponent.Exponent.exponents (g.S.Source.words c.args.source.now) (point b.key) (g.P.Plan.listing c.args.plan.now) in
     let s = state_map (meaning point) (view b) in
     let room : 11 * g.G.Group.operations.width ≤ length c.args.buffer.now = omega (arith, c.if-buffer-code_width.false, c.code_width.ensures) in
     let judged = judged_next T s (length c.args.words.now) (length c.args.buffer.now) None c.if-words-ne6.false room (next_map (meaning point) T.comparators (view b) ∙ sym c.in_default.ensures) in
@@ -44,7 +44,7 @@ inputs_on-inputs-requires g c =
 pub returns : goal.returns
 returns g c =
     let G = g.G.Group.operations in
-    let E = g.Exponent.Exponent.exponents in
+    let E = g.G.Exponent.Exponent.exponents in
     let S = g.S.Source.words c.args.source.now in
     let point = g.G.Group.point in
     let cs = g.P.Plan.listing c.args.plan.now in
@@ -69,7 +69,7 @@ returns g c =
     judged_next T s (length words) bytes (Some on) c.if-words-ne6.false room found ∙ ap (λ (k : ℕ). unless (ltb (k + 3) S.reach) BeyondReach None) (sym same) in
     let proved = judged_prove T s (length words) bytes q c.if-words-ne6.false room in
     let blanks : Pair g.G.Group.Point = record { first = blank G; second = blank G } in
-    let number = g.Exponent.Exponent.number in
+    let number = g.G.Exponent.Exponent.number in
     let Made : Message g.row.G-Element.Denot _ → Type 0 =
     λ m. message_meaning point number m ≡ honest_message G E S (point c.inputs_on-inputs.new.self.key) inputs c.args.setting (secrets_of E words) q in
     let Wanted : Message g.row.G-Element.Denot _ → Type 0 = λ m. HonestStep T s c.args.setting words (message_meaning point number m) in

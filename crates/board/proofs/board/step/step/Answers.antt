@@ -16,9 +16,9 @@ use Rattle.board.proofs.board.step.step.Goals as goal
 
 pub returns-then-on-board : goal.returns-then-on-board
 returns-then-on-board g c =
-    let T = terms g.G.Group.operations g.Exponent.Exponent.exponents (g.S.Source.words c.args.source.now) (g.G.Group.point c.args.board.now.key) (g.P.Plan.listing c.args.plan.now) in
+    let T = terms g.G.Group.operations g.G.Exponent.Exponent.exponents (g.S.Source.words c.args.source.now) (g.G.Group.point c.args.board.now.key) (g.P.Plan.listing c.args.plan.now) in
     let s = state_map (meaning g.G.Group.point) (view c.args.board.now) in
-    let m = message_meaning g.G.Group.point g.Exponent.Exponent.number c.args.message in
+    let m = message_meaning g.G.Group.point g.G.Exponent.Exponent.number c.args.message in
     let long = length-map (meaning g.G.Group.point) c.args.board.now.wires.now in
     let judged = ap (judge_step T s m) (sym c.in-Some.ensures) ∙ outside T s m c.in-Some.on (omega (arith, c.if-on-board.true)) in
     record { key = refl; happens = rw judged (c.at-then-on-board.ensures, refl) }
@@ -47,14 +47,14 @@ write-requires g c =
 pub returns-in_err-check : goal.returns-in_err-check
 returns-in_err-check g c =
     let G = g.G.Group.operations in
-    let E = g.Exponent.Exponent.exponents in
+    let E = g.G.Exponent.Exponent.exponents in
     let S = g.S.Source.words c.args.source.now in
     let point = g.G.Group.point in
     let cs = g.P.Plan.listing c.args.plan.now in
     let b = c.args.board.now in
     let T = terms G E S (point b.key) cs in
     let s = state_map (meaning point) (view b) in
-    let m = message_meaning point g.Exponent.Exponent.number c.args.message in
+    let m = message_meaning point g.G.Exponent.Exponent.number c.args.message in
     let on = c.in-Some.on in
     let long = length-map (meaning point) b.wires.now in
     let kept = c.comparison_on-comparison.ensures.kept in
@@ -72,14 +72,14 @@ returns-in_err-check g c =
 pub returns : goal.returns
 returns g c =
     let G = g.G.Group.operations in
-    let E = g.Exponent.Exponent.exponents in
+    let E = g.G.Exponent.Exponent.exponents in
     let S = g.S.Source.words c.args.source.now in
     let point = g.G.Group.point in
     let cs = g.P.Plan.listing c.args.plan.now in
     let b = c.args.board.now in
     let T = terms G E S (point b.key) cs in
     let s = state_map (meaning point) (view b) in
-    let m = message_meaning point g.Exponent.Exponent.number c.args.message in
+    let m = message_meaning point g.G.Exponent.Exponent.number c.args.message in
     let on = c.in-Some.on in
     let long = length-map (meaning point) b.wires.now in
     let kept = c.comparison_on-comparison.ensures.kept in

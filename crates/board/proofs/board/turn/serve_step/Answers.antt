@@ -33,11 +33,11 @@ write-requires g c =
 pub returns : goal.returns
 returns g c =
     let G = g.G.Group.operations in
-    let E = g.Exponent.Exponent.exponents in
+    let E = g.G.Exponent.Exponent.exponents in
     let S = g.S.Source.words c.args.source.now in
     let point = g.G.Group.point in
     let P = g.G.Group.Point in
-    let number = g.Exponent.Exponent.number in
+    let number = g.G.Exponent.Exponent.number in
     let cs = g.P.Plan.listing c.args.plan.now in
     let b = c.args.board.now in
     let T = terms G E S (point b.key) cs in

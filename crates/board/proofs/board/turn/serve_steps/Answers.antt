@@ -40,7 +40,7 @@ serve_step-requires g c =
 pub loop-k-preserved : goal.loop-k-preserved
 loop-k-preserved g c =
     let point = g.G.Group.point in
-    let terms-of = λ (y : g.row.G-Element.Denot). terms g.G.Group.operations g.Exponent.Exponent.exponents (g.S.Source.words c.args.source.now) (point y) (g.P.Plan.listing c.args.plan.now) in
+    let terms-of = λ (y : g.row.G-Element.Denot). terms g.G.Group.operations g.G.Exponent.Exponent.exponents (g.S.Source.words c.args.source.now) (point y) (g.P.Plan.listing c.args.plan.now) in
     let T = terms-of c.args.board.now.key in
     let s₀ = state_map (meaning point) (view c.args.board.now) in
     let s = state_map (meaning point) (view c.loop-k.board) in
@@ -61,7 +61,7 @@ loop-k-preserved g c =
 pub returns : goal.returns
 returns g c =
     let point = g.G.Group.point in
-    let terms-of = λ (y : g.row.G-Element.Denot). terms g.G.Group.operations g.Exponent.Exponent.exponents (g.S.Source.words c.args.source.now) (point y) (g.P.Plan.listing c.args.plan.now) in
+    let terms-of = λ (y : g.row.G-Element.Denot). terms g.G.Group.operations g.G.Exponent.Exponent.exponents (g.S.Source.words c.args.source.now) (point y) (g.P.Plan.listing c.args.plan.now) in
     let T = terms-of c.args.board.now.key in
     let s₀ = state_map (meaning point) (view c.args.board.now) in
     record {

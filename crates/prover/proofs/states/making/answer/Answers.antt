@@ -12,8 +12,8 @@ pub returns : goal.returns
 returns g c =
     let point = g.G.Group.point in
     let made = c.args.committed.made in
-    let E = g.Exponent.Exponent.exponents in
-    let Answered = answered_proofs E made.setting (secrets_meaning g.Exponent.Exponent.value made.secrets) (point c.args.committed.equivalence) (point c.args.committed.first) (point c.args.committed.second) in
+    let E = g.G.Exponent.Exponent.exponents in
+    let Answered = answered_proofs E made.setting (secrets_meaning g.G.Exponent.Exponent.value made.secrets) (point c.args.committed.equivalence) (point c.args.committed.first) (point c.args.committed.second) in
     let k = comparison_meaning point made.comparison in
     let G = g.G.Group.operations in
     let S = g.S.Source.words c.args.source.now in
