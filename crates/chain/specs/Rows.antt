@@ -1,16 +1,16 @@
 -- The chain brings every permutation about, row by row.
-use Rattle.std.specs.Prelude.{◌≡◌, ℕ, zero, suc, ◌+◌, ◌-◌, ◌*◌, ◌/◌, ◌<◌, ◌≤◌, Bool, true, false, cond, ◌⊎◌, List, [], ◌∷◌, ◌++◌, map, length, ◌==◌, refl}
-use Rattle.std.proofs.Common.{sym, ◌∙◌, ap, subst, inl, inr, ⊎_elim, arith, suc-mul, mul-suc, mul-one, mul-le-mul_right}
+use Rattle.std.specs.Prelude.{◌≡◌, ℕ, zero, suc, ◌+◌, ◌-◌, ◌*◌, ◌/◌, ◌<◌, ◌≤◌, true, false, cond, List, [], ◌∷◌, ◌++◌, map, length, ◌==◌, refl}
+use Rattle.std.proofs.Common.{sym, ◌∙◌, ap, subst, ⊎_elim, arith, suc-mul, mul-suc, mul-one, mul-le-mul_right}
 use Rattle.std.proofs.Math.Nat.{mul-sub}
 use Rattle.std.specs.List.{range_with_len}
 use Rattle.std.proofs.lemmas.Bool.{cases_eq, ne_eqb}
 use Rattle.std.proofs.lemmas.Bool.Decides.{nat_tests}
-use Rattle.std.proofs.lemmas.List.{length-append, append_assoc, append-nil}
+use Rattle.std.proofs.lemmas.List.{length-append}
 use Rattle.std.proofs.lemmas.List.FromFn.{length-map-range_with_len}
 use Rattle.plan.specs.declared.Setting.{Setting}
 use Rattle.plan.specs.declared.Setting.TheVariants.{Straight, Swapped}
 use Rattle.plan.specs.declared.Comparator.{Comparator}
-use Rattle.plan.specs.Plans.{on, at, crossed, came_from, source, Within, Permutation, Brings, Lawful}
+use Rattle.plan.specs.Plans.{on, at, crossed, came_from, source, Within, Permutation, Lawful}
 use Rattle.plan.proofs.Running.{source_append, within_append, brings_from}
 use Rattle.chain.specs.Listing.{chain_from, chain, Fits}
 use Rattle.chain.specs.Stages.{row_setting, Permutes, BringsFrom}

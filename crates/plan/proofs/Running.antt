@@ -1,5 +1,5 @@
 -- What a plan leaves on each wire: the item of the wire that `source` names.
-use Rattle.std.proofs.Common.{◌≡◌, ℕ, zero, suc, ◌+◌, ◌<◌, ◌≤◌, List, [], ◌∷◌, ◌++◌, length, get_or, drop, Some, None, sym, refl, ap, ◌∙◌, subst, ap₂, add-one, arith}
+use Rattle.std.proofs.Common.{◌≡◌, ℕ, zero, suc, ◌+◌, ◌<◌, ◌≤◌, List, [], ◌∷◌, ◌++◌, length, get_or, drop, Some, None, sym, refl, ap, ◌∙◌, subst, ap₂, arith}
 use Rattle.std.specs.List.{range_with_len, swap}
 use Rattle.std.proofs.lemmas.Bool.Decides.{nat_tests}
 use Rattle.std.proofs.lemmas.List.Edits.{length-swap, swapped_from_swap}
@@ -8,7 +8,7 @@ use Rattle.std.proofs.lemmas.List.FromFn.{length-range_with_len, get_or-range_wi
 use Rattle.plan.specs.declared.Setting.{Setting}
 use Rattle.plan.specs.declared.Setting.TheVariants.{Straight, Swapped}
 use Rattle.plan.specs.declared.Comparator.{Comparator}
-use Rattle.plan.specs.Plans.{applied, run, Brings, at, Permutation, Within, nth, crossed, came_from, source}
+use Rattle.plan.specs.Plans.{applied, run, Brings, at, Within, nth, crossed, came_from, source}
 
 get_or_exchanged : {X : Type 0} (xs : List X) (c : Comparator) (x : ℕ) (d : X) → c.first < length xs → c.second < length xs →
     get_or (swap xs c.first c.second) x d ≡ get_or xs (crossed c x) d

@@ -1,4 +1,4 @@
-use Rattle.std.proofs.Common.{◌≡◌, Some, sym, ap, ◌∙◌, arith}
+use Rattle.std.proofs.Common.{Some, sym, ap, ◌∙◌, arith}
 use Rattle.chain.proofs.Routing.{found, further, exhausted}
 use Rattle.chain.proofs.listed.Goals as goal
 

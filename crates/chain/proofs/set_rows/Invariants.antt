@@ -1,4 +1,4 @@
-use Rattle.std.proofs.Common.{◌≡◌, ◌+◌, ◌-◌, ◌≤◌, length, take}
+use Rattle.std.proofs.Common.{◌≡◌, ◌+◌, ◌-◌, length, take}
 use Rattle.plan.specs.Plans.{at}
 use Rattle.chain.specs.Listing.{chain_from}
 use Rattle.chain.specs.Stages.{Permutes}

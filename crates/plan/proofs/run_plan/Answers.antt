@@ -1,4 +1,4 @@
-use Rattle.std.proofs.Common.{◌≡◌, get_or, sym, refl, ap, ◌∙◌, arith}
+use Rattle.std.proofs.Common.{get_or, sym, ap, ◌∙◌, arith}
 use Rattle.plan.proofs.Running.{nth_within, run_more, run_all, nth_none, moved}
 use Rattle.plan.proofs.run_plan.Goals as goal
 use Rattle.plan.proofs.run_plan.Goals.{in-Some, in_default}

@@ -1,4 +1,4 @@
-use Rattle.std.proofs.Common.{◌≡◌, length, drop}
+use Rattle.std.proofs.Common.{◌≡◌, drop}
 use Rattle.plan.specs.Plans.{run}
 use Rattle.plan.proofs.run_plan.Given as goal
 

@@ -1,4 +1,4 @@
-use Rattle.std.proofs.Common.{◌≡◌, ◌-◌, ◌*◌, ◌/◌, sym, ap, ◌∙◌}
+use Rattle.std.proofs.Common.{◌-◌, ◌*◌, ◌/◌, sym, ap, ◌∙◌}
 use Rattle.chain.specs.Rows.{chain_long}
 use Rattle.chain.proofs.ChainPlan.count.Goals as goal
 
