@@ -1,10 +1,8 @@
 -- Settings written over a list, part after part.
-use Rattle.std.proofs.Common.{◌≡◌, ℕ, zero, suc, ◌+◌, ◌-◌, ◌*◌, ◌<◌, ◌≤◌, List, [], ◌∷◌, ◌++◌, map, length, get_or, take, drop, set, sym, refl, ap, ◌∙◌, arith}
-use Rattle.std.specs.List.{range_with_len}
+use Rattle.std.proofs.Common.{◌≡◌, ℕ, ◌+◌, ◌*◌, ◌<◌, ◌≤◌, List, [], ◌∷◌, ◌++◌, length, get_or, take, drop, set, sym, refl, ap, ◌∙◌, arith}
 use Rattle.std.proofs.lemmas.List.{append_assoc, append-nil, take-append-drop, length-append, length-take-le, drop_more, drop_all, drop_at, drop-drop, take_at, set_at}
 use Rattle.std.proofs.lemmas.List.FromFn.{length-map-range_with_len, map-range_with_len_more}
 use Rattle.plan.specs.declared.Setting.{Setting}
-use Rattle.plan.specs.declared.Setting.TheVariants.{Straight}
 use Rattle.butterfly.specs.Halves.{setting_for, layer, written}
 
 front : {X : Type 0} (s xs : List X) (a : ℕ) → a ≤ length s → length (take a s ++ xs) ≡ a + length xs

@@ -4,7 +4,7 @@
 use Rattle.std.specs.Prelude.{◌≡◌, ℕ, zero, suc, ◌+◌, ◌-◌, ◌*◌, ◌%◌, ◌<◌, ◌≤◌, cond, List, length, ◌≢◌, nat_lt, slice_index_or, slice_set}
 use Rattle.plan.specs.Plans.{at}
 use Rattle.butterfly.specs.declared.Half.{Half}
-use Rattle.butterfly.specs.declared.Half.TheVariants.{Even, Odd}
+use Rattle.butterfly.specs.declared.Half.TheVariants.{Even}
 use Rattle.butterfly.specs.Halves.{other, sides}
 
 -- the other wire of a wire's pair

@@ -1,4 +1,4 @@
-use Rattle.std.proofs.Common.{◌≡◌, ℕ, ◌<◌, length, get_or}
+use Rattle.std.proofs.Common.{◌≡◌, ℕ, ◌<◌, length}
 use Rattle.plan.specs.Plans.{at}
 use Rattle.butterfly.specs.Halves.{sides}
 use Rattle.butterfly.proofs.halves_by_start.Given as goal

@@ -1,4 +1,4 @@
-use Rattle.std.proofs.Common.{◌≡◌, sym, ◌∙◌, arith}
+use Rattle.std.proofs.Common.{arith}
 use Rattle.butterfly.specs.Halves.{sides}
 use Rattle.butterfly.proofs.Writing.{written_none, layer_more}
 use Rattle.butterfly.proofs.set_layer.Goals as goal

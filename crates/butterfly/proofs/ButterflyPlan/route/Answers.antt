@@ -1,4 +1,4 @@
-use Rattle.std.proofs.Common.{◌≡◌, length, refl, ap, ◌∙◌, arith}
+use Rattle.std.proofs.Common.{length, refl, ap, ◌∙◌, arith}
 use Rattle.plan.specs.Plans.{at}
 use Rattle.butterfly.specs.Placing.{butterfly_is}
 use Rattle.butterfly.proofs.Routing.{inverse_like, routed}
