@@ -7,8 +7,8 @@ use Rattle.plan.proofs.Running.{brings_from}
 use Rattle.butterfly.specs.declared.Half.{Half}
 use Rattle.butterfly.specs.Halves.{other, sides, network, layered_settings, Halved, half_of, Sends, RoutesAt}
 use Rattle.butterfly.specs.Listing.{butterfly}
-use Rattle.butterfly.specs.Colours.{Coloured, Contracted, partner, first_half, assigned}
-use Rattle.butterfly.specs.Colouring.{assigned_step, contracted_all, from_even, from_even_is, from_even_at}
+use Rattle.butterfly.specs.Colours.{Coloured, Parted, Contracted, partner, first_half, assigned}
+use Rattle.butterfly.specs.Colouring.{parted, assigned_step, contracted_all, from_even, from_even_is, from_even_at}
 use Rattle.butterfly.specs.Halving.{halved, halved_from, widened_partner, partner_widened}
 use Rattle.butterfly.specs.Network.{combined, length_layered}
 use Rattle.butterfly.specs.Placing.{butterfly_is, butterfly_lawful}
@@ -23,7 +23,7 @@ assign_more t j m c r h o l e f i =
 
 pub coloured_like : (m : ℕ) (t u c : ℕ → ℕ) → ((x : ℕ) → x < 2 * m → t x ≡ u x) → Coloured m t c → Coloured m u c
 coloured_like m t u c e k =
-    record { neighbours = k.neighbours; partners = λ x h. ap (λ y. c x + c y) (sym (e x h)) ∙ k.partners x h }
+    record { first = k.first; neighbours = k.neighbours; partners = λ x h. ap (λ y. c x + c y) (sym (e x h)) ∙ k.partners x h }
 
 -- the two tables of halves, without a lone wire
 pub halved_even : (m : ℕ) (p q c d : ℕ → ℕ) → Inverse (2 * m) p q → Coloured m (partner p q) c → ((y : ℕ) → y < 2 * m → d y ≡ c (q y)) → Halved m 0 p q c d
@@ -32,19 +32,19 @@ halved_even m p q c d v k e =
     let j : m ≡ m + 0 = omega arith in
     let u = subst (λ (i : ℕ). Inverse i p q) n v in
     halved m 0 p q c d (omega arith) u
-    (subst (λ (i : ℕ). Coloured i (widened_partner m 0 p q) c) j (coloured_like m (partner p q) (widened_partner m 0 p q) c (partner_widened m p q u) k))
+    (subst (λ (i : ℕ). Parted i (widened_partner m 0 p q) c) j (parted m (widened_partner m 0 p q) c (coloured_like m (partner p q) (widened_partner m 0 p q) c (partner_widened m p q u) k)))
     (λ o. absurd (omega arith)) (λ y h. e y (omega arith))
 
 -- the same from the code's own tables, with or without a lone wire: the other half for each item, where the wire more
 -- does not have the even one
 pub halved_assigned : (m e : ℕ) (p q : ℕ → ℕ) (o t : List ℕ) (c : List Half) → e ≤ 1 → Inverse (2 * m + e) p q →
-    ((x : ℕ) → x < 2 * (m + e) → at o x ≡ widened_partner m e p q x) → Contracted 0 (m + e) t (at o) → 2 * (m + e) ≤ length c →
+    ((x : ℕ) → x < 2 * (m + e) → at o x ≡ widened_partner m e p q x) → Contracted 0 (m + e) t (at o) → 2 * (m + e) ≤ length c → sides c 0 ≡ 0 →
     let ends = from_even (e * (2 * m + 1)) (sides (assigned t 0 (m + e) c)) in Halved m e p q ends (λ y. ends (q y)) × (e ≡ 0 → ends 0 ≡ 0)
-halved_assigned m e p q o t c l v f g h =
+halved_assigned m e p q o t c l v f g h z =
     let w = e * (2 * m + 1) in
     let s = sides (assigned t 0 (m + e) c) in
-    let k = coloured_like (m + e) (at o) (widened_partner m e p q) s f (contracted_all (m + e) t c (assigned t 0 (m + e) c) (at o) g h refl) in
-    halved_from m e p q (from_even w s) l v (from_even_is w (m + e) (widened_partner m e p q) s k) (from_even_at w s)
+    let k = coloured_like (m + e) (at o) (widened_partner m e p q) s f (contracted_all (m + e) t c (assigned t 0 (m + e) c) (at o) g h z refl) in
+    halved_from m e p q (from_even w s) l v (from_even_is w (m + e) (widened_partner m e p q) s (parted (m + e) (widened_partner m e p q) s k)) (from_even_at w s)
 
 pub inverse_like : (m n : ℕ) (p q p' q' : ℕ → ℕ) → m ≡ n → ((i : ℕ) → i < m → p' i ≡ p i) → ((i : ℕ) → i < m → q' i ≡ q i) → Inverse m p q → Inverse n p' q'
 inverse_like m n p q p' q' z e f v =

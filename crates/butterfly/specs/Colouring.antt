@@ -1,5 +1,5 @@
 -- Halves for the two ends of each pair and for partners, by taking the pairs out.
-use Rattle.std.specs.Prelude.{◌≡◌, ℕ, zero, suc, ◌+◌, ◌-◌, ◌*◌, ◌<◌, ◌≤◌, cond, ◌≢◌, List, [], ◌∷◌, length, ◌==◌, nat_lt, slice_index_or, slice_set, refl}
+use Rattle.std.specs.Prelude.{◌≡◌, ℕ, zero, suc, ◌+◌, ◌-◌, ◌*◌, ◌<◌, ◌≤◌, cond, ◌≢◌, List, length, ◌==◌, nat_lt, slice_index_or, slice_set, refl}
 use Rattle.std.proofs.Common.{sym, ◌∙◌, ap, subst, arith}
 use Rattle.std.proofs.lemmas.List.{get_or-set_same, get_or-set_other, length-set}
 use Rattle.std.proofs.lemmas.Bool.{cases_eq, cases_lt, lt-ltb, le-ltb, cond-true, cond-false}
@@ -8,7 +8,7 @@ use Rattle.plan.specs.Plans.{at}
 use Rattle.butterfly.specs.declared.Half.{Half}
 use Rattle.butterfly.specs.declared.Half.TheVariants.{Even, Odd}
 use Rattle.butterfly.specs.Halves.{side, other, sides}
-use Rattle.butterfly.specs.Colours.{Matching, Coloured, first_half, assign, assigned, Contracted}
+use Rattle.butterfly.specs.Colours.{Matching, Coloured, Parted, first_half, assign, assigned, Contracted}
 
 -- u makes partners as t does, but joins the partners of 2 * j and of 2 * j + 1
 record Joined (j : ℕ) (t u : ℕ → ℕ) : Type 0 where
@@ -50,8 +50,8 @@ matching_joined j t u m w =
           grind arith;
     }
 
-coloured_none : (t c : ℕ → ℕ) → Coloured 0 t c
-coloured_none t c = record { neighbours = λ i h. omega arith; partners = λ x h. omega arith }
+coloured_none : (t c : ℕ → ℕ) → c 0 ≡ 0 → Coloured 0 t c
+coloured_none t c z = record { first = z; neighbours = λ i h. omega arith; partners = λ x h. omega arith }
 
 -- the colours d of u, with those of 2 * j and 2 * j + 1 added
 record Added (j : ℕ) (t c d : ℕ → ℕ) : Type 0 where
@@ -73,6 +73,11 @@ coloured_added j t u c d m w k a =
     let aa = a.alone in
     let ar = a.right in
     record {
+      first =
+          let z = cases_eq j 0 in
+          let b0 = a.below 0 in
+          let kf = k.first in
+          grind arith;
       neighbours = λ i h.
           let z = cases_eq i j in
           let b0 = a.below (2 * i) in
@@ -126,7 +131,7 @@ extended_is j t u r k =
     }
 
 coloured : (j : ℕ) (t : ℕ → ℕ) → Matching j t → (c : ℕ → ℕ) × Coloured j t c
-coloured zero t m = (λ x. 0, coloured_none t (λ x. 0))
+coloured zero t m = (λ x. 0, coloured_none t (λ x. 0) refl)
 coloured (suc j) t m =
     let w = joined_is j t m in
     let r = coloured j (joined j t) (matching_joined j t (joined j t) m w) in
@@ -136,7 +141,10 @@ coloured (suc j) t m =
 abbrev pub from_even : ℕ → (ℕ → ℕ) → ℕ → ℕ
 from_even x c y = cond (c x == 0) (c y) (1 - c y)
 
-pub from_even_is : (x j : ℕ) (t c : ℕ → ℕ) → Coloured j t c → Coloured j t (from_even x c)
+pub parted : (j : ℕ) (t c : ℕ → ℕ) → Coloured j t c → Parted j t c
+parted j t c k = record { neighbours = k.neighbours; partners = k.partners }
+
+pub from_even_is : (x j : ℕ) (t c : ℕ → ℕ) → Parted j t c → Parted j t (from_even x c)
 from_even_is x j t c k =
     record {
       neighbours = λ i h. let e = k.neighbours i h in grind (arith, nat_tests);
@@ -147,10 +155,10 @@ pub from_even_at : (x : ℕ) (c : ℕ → ℕ) → from_even x c x ≡ 0
 from_even_at x c = grind (arith, nat_tests)
 
 -- colours in which x, whichever it is, has 0
-pub coloured_from : (x j : ℕ) (t : ℕ → ℕ) → Matching j t → (c : ℕ → ℕ) × Coloured j t c × (c x ≡ 0)
+pub coloured_from : (x j : ℕ) (t : ℕ → ℕ) → Matching j t → (c : ℕ → ℕ) × Parted j t c × (c x ≡ 0)
 coloured_from x j t m =
     let r = coloured j t m in
-    (from_even x r.0, from_even_is x j t r.0 r.1, from_even_at x r.0)
+    (from_even x r.0, from_even_is x j t r.0 (parted j t r.0 r.1), from_even_at x r.0)
 
 -- the same on lists, as the code has them
 joined_lists : (t : List ℕ) (i a b : ℕ) → Matching (suc i) (at t) → 2 * suc i ≤ length t → a ≡ at t (2 * i) → b ≡ at t (2 * i + 1) → Joined i (at t) (at (slice_set (slice_set t a b) b a))
@@ -272,21 +280,7 @@ turn_then n j m a b t o e l p r s g = turn_joined j m a b t o l p r s (subst (λ
 pub turn_else : (n j m : ℕ) (t : List ℕ) (o : ℕ → ℕ) → n ≡ suc j → 2 * j ≤ at t (2 * j) → Turned n m t o → Turned j m t o
 turn_else n j m t o e s g = turn_alone j m t o s (subst (λ (z : ℕ). Turned z m t o) e g)
 
-pub contracted_all : (m : ℕ) (t : List ℕ) (c d : List Half) (o : ℕ → ℕ) → Contracted 0 m t o → 2 * m ≤ length c → d ≡ assigned t 0 m c → Coloured m o (sides d)
-contracted_all m t c d o g l e =
+pub contracted_all : (m : ℕ) (t : List ℕ) (c d : List Half) (o : ℕ → ℕ) → Contracted 0 m t o → 2 * m ≤ length c → sides c 0 ≡ 0 → d ≡ assigned t 0 m c → Coloured m o (sides d)
+contracted_all m t c d o g l z e =
     let n : m - 0 ≡ m = omega arith in
-    subst (λ (y : List Half). Coloured m o (sides y)) (ap (λ r. assigned t 0 r c) n ∙ sym e) (g c l (coloured_none (at t) (sides c)))
-
--- the first end has the even half
-assign_first : (t : List ℕ) (j : ℕ) (c : List Half) → sides c 0 ≡ 0 → sides (assign t j c) 0 ≡ 0
-assign_first t zero [] z = refl
-assign_first t zero (h ∷ c) z = ap side (cond-false _ _ _ (le-ltb (at t 0) 0 (omega arith)))
-assign_first t (suc j) c z =
-    let m : 0 ≢ 2 * suc j = omega arith in
-    let n : 0 ≢ 2 * suc j + 1 = omega arith in
-    ap side (get_or-set_other (slice_set c (2 * suc j) (first_half t (suc j) c)) (2 * suc j + 1) 0 (other (first_half t (suc j) c)) Even n ∙ get_or-set_other c (2 * suc j) 0 (first_half t (suc j) c) Even m) ∙ z
-
-pub assigned_first : (r : ℕ) (t : List ℕ) (j : ℕ) (c : List Half) → sides c 0 ≡ 0 → sides (assigned t j r c) 0 ≡ 0
-unfolding assigned
-assigned_first zero t j c z = z
-assigned_first (suc r) t j c z = assigned_first r t (j + 1) (assign t j c) (assign_first t j c z)
+    subst (λ (y : List Half). Coloured m o (sides y)) (ap (λ r. assigned t 0 r c) n ∙ sym e) (g c l (coloured_none (at t) (sides c) z))

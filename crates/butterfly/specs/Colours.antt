@@ -21,8 +21,14 @@ pub record Matching (j : ℕ) (t : ℕ → ℕ) : Type 0 where
   pub apart : (x : ℕ) → x < 2 * j → t x ≢ x
   pub twice : (x : ℕ) → x < 2 * j → t (t x) ≡ x
 
--- c gives the two of each pair, and two partners, a 0 and a 1
+-- c gives the two of each pair, and two partners, a 0 and a 1; the first is given 0
 pub record Coloured (j : ℕ) (t c : ℕ → ℕ) : Type 0 where
+  pub first : c 0 ≡ 0
+  pub neighbours : (i : ℕ) → i < j → c (2 * i) + c (2 * i + 1) ≡ 1
+  pub partners : (x : ℕ) → x < 2 * j → c x + c (t x) ≡ 1
+
+-- the same, whatever the first is given
+pub record Parted (j : ℕ) (t c : ℕ → ℕ) : Type 0 where
   pub neighbours : (i : ℕ) → i < j → c (2 * i) + c (2 * i + 1) ≡ 1
   pub partners : (x : ℕ) → x < 2 * j → c x + c (t x) ≡ 1
 

@@ -5,7 +5,7 @@ use Rattle.std.proofs.lemmas.Bool.{cases_eq, cases_lt, cond-true, cond-false, lt
 use Rattle.std.proofs.lemmas.Bool.Decides.{nat_tests}
 use Rattle.plan.specs.Plans.{Inverse}
 use Rattle.butterfly.specs.Halves.{Halved, member, half_of, HalvesExist}
-use Rattle.butterfly.specs.Colours.{Matching, Coloured, neighbour, partner}
+use Rattle.butterfly.specs.Colours.{Matching, Parted, neighbour, partner}
 use Rattle.butterfly.specs.Colouring.{coloured_from}
 
 neighbour_below : (m y : ℕ) → y < 2 * m → neighbour y < 2 * m
@@ -66,7 +66,7 @@ abbrev pub widened_partner : ℕ → ℕ → (ℕ → ℕ) → (ℕ → ℕ) →
 widened_partner m e p q = partner (widened (2 * m + e) p) (widened (2 * m + e) q)
 
 -- halves from colours, in which the wire more, if there is one, has 0
-pub halved : (m e : ℕ) (p q c d : ℕ → ℕ) → e ≤ 1 → Inverse (2 * m + e) p q → Coloured (m + e) (widened_partner m e p q) c → (e ≡ 1 → c (2 * m + 1) ≡ 0) →
+pub halved : (m e : ℕ) (p q c d : ℕ → ℕ) → e ≤ 1 → Inverse (2 * m + e) p q → Parted (m + e) (widened_partner m e p q) c → (e ≡ 1 → c (2 * m + 1) ≡ 0) →
     ((y : ℕ) → y < 2 * m + e → d y ≡ c (q y)) → Halved m e p q c d
 halved m e p q c d l v k z b =
     let n = 2 * m + e in
@@ -93,7 +93,7 @@ halved m e p q c d l v k z b =
     }
 
 -- it has 0 as number 0 has without a lone wire
-pub halved_from : (m e : ℕ) (p q c : ℕ → ℕ) → e ≤ 1 → Inverse (2 * m + e) p q → Coloured (m + e) (widened_partner m e p q) c → c (e * (2 * m + 1)) ≡ 0 →
+pub halved_from : (m e : ℕ) (p q c : ℕ → ℕ) → e ≤ 1 → Inverse (2 * m + e) p q → Parted (m + e) (widened_partner m e p q) c → c (e * (2 * m + 1)) ≡ 0 →
     Halved m e p q c (λ y. c (q y)) × (e ≡ 0 → c 0 ≡ 0)
 halved_from m e p q c l v k z = (
   halved m e p q c (λ y. c (q y)) l v k (λ o. let w : 2 * m + 1 ≡ e * (2 * m + 1) = rw o (omega arith) in ap c w ∙ z) (λ y h. refl),

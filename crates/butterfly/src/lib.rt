@@ -247,7 +247,6 @@ fn halves_by_end(pairs: usize, entries: &[u8; 64], inverse: &[u8; 64]) -> [Half;
     requires narrow { pairs ≤ 32 }
     requires inverse { Inverse (2 * pairs) (at entries.now) (at inverse.now) }
     ensures coloured { Coloured pairs (partner (at entries.now) (at inverse.now)) (sides result) }
-    ensures first { sides result 0 ≡ 0 }
     ensures exist { HalvesExist }
 {
     let mut table = partners(pairs, entries, inverse);

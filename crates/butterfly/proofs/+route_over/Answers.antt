@@ -124,7 +124,7 @@ returns t c =
       routed =
           record {
             route = layered_settings m 0 (sides c.halves_by_end-ends.result) (sides c.halves_by_start-starts.result) e.route o.route;
-            sends = sends c.args.levels m (at c.args.entries.now) (at c.args.inverse.now) (sides c.halves_by_end-ends.result) (sides c.halves_by_start-starts.result) e.route o.route (omega arith) w hv c.halves_by_end-ends.ensures.first se so;
+            sends = sends c.args.levels m (at c.args.entries.now) (at c.args.inverse.now) (sides c.halves_by_end-ends.result) (sides c.halves_by_start-starts.result) e.route o.route (omega arith) w hv c.halves_by_end-ends.ensures.coloured.first se so;
             stands =
                 four_parts c.args.settings.now _ _ _ _ (layer (sides c.halves_by_start-starts.result) 0 m) e.route o.route (layer (sides c.halves_by_end-ends.result) 1 (m - 1)) c.args.start m c.size-inner.result (length-map-range_with_len _ 0 m) (e.sends.count ∙ sym c.size-inner.ensures.value) (o.sends.count ∙ sym c.size-inner.ensures.value) (omega arith)
                 c.set_layer.ensures e.stands o.stands c.set_layer-2.ensures;
