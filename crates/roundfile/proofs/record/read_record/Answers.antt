@@ -10,7 +10,7 @@ returns c =
     let kind = c.in_ok-kind.kind in
     let map : ℕ = c.from_be_bytes-map.result in
     let three : 3 ≤ length bytes = omega (arith, ltb-false) in
-    let known : kind_of (get_or bytes 0 0) ≡ Some kind = sym c.from_byte.ensures ∙ c.ok_or.ensures.ok-part ∙ ap result_ok c.in_ok-kind.was in
+    let known : kind_of (get_or bytes 0 0) ≡ Some kind = sym c.from_byte.ensures ∙ c.ok_or.ensures.ok_part ∙ ap result_ok c.in_ok-kind.was in
     let within : map / 2 ^ field_count kind ≡ 0 = omega (arith, ap (λ n. map / 2 ^ n) c.field_count.ensures) in
     let there = record_there bytes kind map c.size-size.result three known c.from_be_bytes-map.ensures within c.size-size.ensures (omega arith) in
     cc
