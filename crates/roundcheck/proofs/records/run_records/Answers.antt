@@ -62,7 +62,7 @@ loop-next-preserved g c =
     let line = c.in-Ok-judge_record.line in
     let judged = subst (λ (k : g.row.G-Element.Denot). Judges (terms-of k) number s f (Ok line) s') inv.0 told.judged in (
       told.key ∙ inv.0,
-      went_on T number p₀ s₀ (vec_items c.args.lines) p q s s' (vec_items c.loop-next.lines) (vec_items c.push.new.self) f line inv.1 given judged c.in_ok-push.ensures.items,
+      went_on T number p₀ s₀ (vec_items c.args.lines) p q s s' (vec_items c.loop-next.lines) (vec_items c.push.new.self) f line inv.1 given judged c.in_ok-push-in-Ok-judge_record.ensures.items,
     )
 
 pub returns-in-Err-judge_record : goal.returns-in-Err-judge_record
