@@ -37,6 +37,6 @@ returns g c =
       reason,
       (refl, refl),
       (told.0, told.1, subst (λ (e : Ending). Runs T g.G.Exponent.Exponent.number (place c.args.reader) s told.0 e) c.in-Judged.is told.2),
-      subst (λ (e : Ending). Unserved n cs lines e c.args.turn.file.now c.args.turn.permutation.now (length c.args.words.now) reason) c.in-Judged.is (rw c.in-Err.is at c.in_ok-bytes.ensures),
+      subst (λ (e : Ending). Unserved n cs lines e c.args.turn.file.now c.args.turn.permutation.now (length c.args.words.now) reason) c.in-Judged.is (rw c.in-Err.is at c.in_ok-bytes-in-Judged.ensures),
       c.at.ensures,
     )
