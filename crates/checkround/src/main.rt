@@ -9,6 +9,7 @@ use roundcheck::file::check_file;
 use roundcheck::report::{Ending, Report};
 use std::fs::File;
 use std::io::Read;
+use std::process::ExitCode;
 use std::{env, io};
 
 const USAGE: &str =
@@ -82,11 +83,11 @@ fn run(rt: &HostRuntime) -> anyhow::Result<bool> {
     check(rt, bytes.as_slice())
 }
 
-fn main(rt: HostRuntime) -> anyhow::Result<()> {
+fn main(rt: HostRuntime) -> anyhow::Result<ExitCode> {
     match run(&rt) {
-        Ok(true) => Ok(()),
+        Ok(true) => Ok(ExitCode::SUCCESS),
         // The refusal is printed: there is nothing more to say of it.
-        Ok(false) => Err(anyhow!("refused")),
+        Ok(false) => Ok(ExitCode::FAILURE),
         Err(error) => Err(error),
     }
 }

@@ -104,10 +104,7 @@ fn run(rt: &HostRuntime) -> anyhow::Result<()> {
     let mut bytes = read_input(rt)?;
     match serve(rt, bytes.as_mut_slice())? {
         Ok(mixed) => Ok(rt.stdout().write_all(mixed.as_slice())?),
-        Err(refusal) => {
-            let text = format!(in rt.alloc(); "{refusal}")?;
-            Err(text.into())
-        }
+        Err(refusal) => Err(anyhow!("{refusal}")),
     }
 }
 
