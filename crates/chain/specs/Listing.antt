@@ -1,5 +1,5 @@
 -- The chain: every two wires meet once, by rising first wire and then by rising second wire.
--- `counting a n` is the list of the n numbers from a on.
+-- `range_with_len a n` is the list of the n numbers from a on.
 use Rattle.std.specs.Prelude.{◌≡◌, ℕ, zero, suc, ◌+◌, ◌≤◌, List, [], ◌++◌, map}
 use Rattle.std.specs.List.{range_with_len}
 use Rattle.refusal.specs.declared.Refusal.{Refusal}

@@ -1,5 +1,5 @@
 -- Plans: comparators on wires, their settings, and what they bring about.
--- Wires are numbered from 0, and an item stands on each. `counting a n` is the list of the n numbers from a on.
+-- Wires are numbered from 0, and an item stands on each. `range_with_len a n` is the list of the n numbers from a on.
 use Rattle.std.specs.Prelude.{◌≡◌, ℕ, zero, suc, ◌<◌, ◌≤◌, cond, List, [], ◌∷◌, length, Some, None, Ok, Err, Option, Result, ◌==◌, ◌≢◌, slice_index}
 use Rattle.std.specs.List.{range_with_len, swap}
 use Rattle.refusal.specs.declared.Refusal.{Refusal}

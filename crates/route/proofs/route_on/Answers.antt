@@ -1,7 +1,6 @@
-use Rattle.std.proofs.Common.{◌≡◌, List, sym, ap, ◌∙◌, ap₂}
+use Rattle.std.proofs.Common.{ap, ◌∙◌, ap₂}
 use Rattle.std.specs.List.{range_with_len}
 use Rattle.std.proofs.lemmas.List.{take_at}
-use Rattle.plan.specs.declared.Setting.{Setting}
 use Rattle.plan.specs.Plans.{run}
 use Rattle.route.proofs.route_on.Goals as goal
 
