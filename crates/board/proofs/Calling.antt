@@ -1,5 +1,5 @@
 -- What a call does to a board of elements, it does to the board of points that this means.
-use Rattle.std.proofs.Common.{◌≡◌, ℕ, ◌*◌, ◌<◌, ◌≤◌, Bool, true, false, List, map, length, Some, None, Ok, Err, Option, Result, sym, refl, ap, ◌∙◌, subst, arith, le-ltb, lt-ltb, eq-eqb, ne_eqb, le-leb, MatchResult}
+use Rattle.std.proofs.Common.{◌≡◌, ℕ, ◌*◌, ◌<◌, ◌≤◌, Bool, true, length, Some, None, Ok, Err, Option, Result, sym, ap, ◌∙◌, subst, arith, le-ltb, lt-ltb, eq-eqb, ne_eqb, le-leb, MatchResult}
 use Rattle.elgamal.specs.Ciphertexts.{meaning}
 use Rattle.elgamal.specs.declared.Ciphertext.{Ciphertext}
 use Rattle.plan.specs.Plans.{nth}

@@ -3,10 +3,9 @@ use Rattle.std.proofs.Common.{◌≡◌, ℕ, zero, suc, ◌+◌, Bool, true, fa
 use Rattle.elgamal.specs.Ciphertexts.{meaning}
 use Rattle.plan.specs.declared.Comparator.{Comparator}
 use Rattle.posting.specs.Comparison.{pair_meaning, comparison_meaning}
-use Rattle.posting.specs.declared.comparison.Comparison.{Comparison}
 use Rattle.posting.specs.declared.comparison.Pair.{Pair}
 use Rattle.elgamal.specs.declared.Ciphertext.{Ciphertext}
-use Rattle.board.specs.States.{State, state_map, posted_state, kept_state, restored_state, closed_state, advanced, written_state, stepped_state, expelled_state}
+use Rattle.board.specs.States.{State, state_map, posted_state, kept_state, restored_state, advanced, written_state, stepped_state, expelled_state}
 use Rattle.board.specs.Steps.{comparison_at}
 
 module _ {X Y : Type 0} (f : X → Y) where

@@ -6,8 +6,6 @@ use Rattle.equivalence.specs.Judgement.{both, unless, judge}
 use Rattle.plan.specs.Plans.{nth}
 use Rattle.plan.specs.declared.Comparator.{Comparator}
 use Rattle.posting.specs.Comparison.{pair_meaning}
-use Rattle.posting.specs.Drawing.{buffer_fits}
-use Rattle.posting.specs.declared.comparison.Comparison.{Comparison}
 use Rattle.posting.specs.declared.comparison.Pair.{Pair}
 use Rattle.prover.specs.States.{Outcome, unready, Taken}
 use Rattle.prover.specs.declared.states.Message.{Message}
@@ -16,7 +14,7 @@ use Rattle.refusal.specs.declared.Reason.TheVariants.{UnfitLength, WrongStage, B
 use Rattle.refusal.specs.declared.Refusal.{Refusal}
 use Rattle.board.proofs.Meanings.{length-map, map_get_or}
 use Rattle.board.specs.Calls.{Terms, question, is_turning, judge_step, judge_call}
-use Rattle.board.specs.Serving.{inputs_on, on_the_wires, next_comparator, inputs_at, judge_reach, judge_honest}
+use Rattle.board.specs.Serving.{inputs_on, on_the_wires, next_comparator, judge_reach, judge_honest}
 use Rattle.board.specs.States.{State, state_map}
 use Rattle.board.specs.Steps.{comparison_at}
 use Rattle.board.specs.declared.events.Event.TheVariants.{Step}

@@ -1,13 +1,13 @@
 -- A step, by its judgement.
-use Rattle.std.proofs.Common.{◌≡◌, ℕ, zero, suc, ◌<◌, ◌≤◌, true, List, [], ◌∷◌, length, Some, None, Ok, Err, Option, Result, sym, refl, ap, ◌∙◌, subst, arith, le-ltb, lt-ltb}
+use Rattle.std.proofs.Common.{◌≡◌, ℕ, zero, suc, ◌<◌, ◌≤◌, List, [], ◌∷◌, length, Some, None, Ok, Err, Option, sym, refl, subst, arith, le-ltb, lt-ltb}
 use Rattle.elgamal.specs.declared.Ciphertext.{Ciphertext}
-use Rattle.equivalence.specs.Judgement.{judge, Answered, unless}
+use Rattle.equivalence.specs.Judgement.{judge, Answered}
 use Rattle.plan.specs.Plans.{nth, Within}
 use Rattle.plan.specs.declared.Comparator.{Comparator}
 use Rattle.prover.specs.declared.states.Message.{Message}
 use Rattle.refusal.specs.Table.{refused_at}
 use Rattle.refusal.specs.declared.Reason.{Reason}
-use Rattle.refusal.specs.declared.Reason.TheVariants.{UnfitLength, WrongStage}
+use Rattle.refusal.specs.declared.Reason.TheVariants.{WrongStage}
 use Rattle.refusal.specs.declared.Refusal.{Refusal}
 use Rattle.board.specs.Calls.{Terms, judge_step, question}
 use Rattle.board.specs.States.{State}

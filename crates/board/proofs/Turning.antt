@@ -1,5 +1,5 @@
 -- A turn's honest steps, one more at a time.
-use Rattle.std.proofs.Common.{◌≡◌, ℕ, zero, suc, ◌+◌, ◌-◌, ◌*◌, ◌<◌, ◌≤◌, Bool, true, false, cond, eqb, List, [], ◌∷◌, ◌++◌, length, get_or, take, drop, set, Some, None, Option, sym, refl, ap, ◌∙◌, subst, ap₂, mul-suc, add-one, arith, length-set, length-take-le, take_all, drop-cons, drop-drop, ne_eqb, eqb-true}
+use Rattle.std.proofs.Common.{◌≡◌, ℕ, zero, suc, ◌+◌, ◌-◌, ◌*◌, ◌<◌, ◌≤◌, Bool, true, false, cond, eqb, List, [], ◌∷◌, ◌++◌, length, get_or, take, drop, set, Some, None, sym, refl, ap, ◌∙◌, ap₂, mul-suc, add-one, arith, length-set, length-take-le, take_all, drop-cons, drop-drop, ne_eqb, eqb-true}
 use Rattle.elgamal.specs.declared.Ciphertext.{Ciphertext}
 use Rattle.equivalence.specs.Judgement.{both}
 use Rattle.plan.specs.Plans.{nth}

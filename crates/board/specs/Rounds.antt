@@ -1,5 +1,5 @@
 -- How a board is opened, and how a finished round is judged.
-use Rattle.std.specs.Prelude.{◌≡◌, ℕ, ◌+◌, ◌*◌, ◌/◌, Bool, true, false, cond, not, None, Option, ◌==◌, nat_le}
+use Rattle.std.specs.Prelude.{ℕ, ◌+◌, ◌*◌, ◌/◌, Bool, cond, not, None, Option, ◌==◌, nat_le}
 use Rattle.elgamal.specs.declared.Ciphertext.{Ciphertext}
 use Rattle.equivalence.specs.Equations.{same_point}
 use Rattle.equivalence.specs.Judgement.{both, unless}

@@ -9,7 +9,7 @@ use Rattle.modular.specs.Residues.{Residue, member, residues}
 use Rattle.witness.specs.Samples.{gamma}
 use Rattle.witness.specs.declared.samples.Samples.{Samples}
 use Rattle.drill.specs.Formula.{second, formula}
-use Rattle.drill.specs.Rule.{AllEqual, TheKey}
+use Rattle.drill.specs.Rule.{TheKey}
 use Rattle.drill.proofs.Lines.{key_holds}
 
 abbrev pub group1 : Operations (Residue 23 11)

@@ -1,13 +1,13 @@
 -- Three samples of one pair of points A and B: at each z, A^z·B = (y^z·g)^γ.
-use Rattle.std.proofs.Common.{◌≡◌, ℕ, ◌+◌, ◌-◌, ◌*◌, ◌%◌, ◌<◌, ◌⊎◌, List, [], ◌∷◌, sym, refl, ap, ◌∙◌, subst, ap₂, inl, inr, mod-eq_of_lt}
-use Rattle.algebra.proofs.Solver.{Exponent, Product, var, nil, unity, ◌⊕◌, ◌⊗◌, ⊝◌, pt, unit, ◌·◌, inv, ◌^◌ as ◌↑◌, given, solve, number}
-use Rattle.group.proofs.Powers.{power_mul, power_zero}
-use Rattle.group.specs.Exponents.{Exponents, ExponentLaws, remainder, sum, difference, product}
+use Rattle.std.proofs.Common.{◌≡◌, ℕ, ◌*◌, ◌%◌, ◌<◌, List, [], ◌∷◌, sym, refl, ap, ◌∙◌, ap₂}
+use Rattle.algebra.proofs.Solver.{Exponent, Product, var, unity, ◌⊕◌, ◌⊗◌, ⊝◌, pt, unit, ◌·◌, inv, ◌^◌ as ◌↑◌, given, solve, number}
+use Rattle.group.proofs.Powers.{power_zero}
+use Rattle.group.specs.Exponents.{Exponents, ExponentLaws, remainder, difference, product}
 use Rattle.group.specs.Operations.{Operations, GroupLaws, power, quotient}
 use Rattle.witness.specs.declared.samples.Sample.{Sample}
 use Rattle.witness.specs.declared.samples.Samples.{Samples}
 use Rattle.drill.specs.Formula.{second, top, bottom, formula}
-use Rattle.drill.specs.Rule.{AllEqual, OnLine, Fits, TheKey}
+use Rattle.drill.specs.Rule.{AllEqual, Fits, TheKey}
 use Rattle.drill.proofs.Powers.{by_sum, by_product, by_difference, by_congruent, by_remainder, by_inverse, base_tells, congruent, undone, remainder_below}
 
 -- expressions over the variables z1 z2 z3 c1 c2 c3, for the three z and the three exponents

@@ -1,8 +1,8 @@
 -- Exponents in a group of their order: powers by sums, differences, products and inverses of exponents.
-use Rattle.std.proofs.Common.{◌≡◌, ℕ, zero, suc, ◌+◌, ◌-◌, ◌*◌, ◌%◌, ◌^◌, ◌<◌, ◌≤◌, ◌⊎◌, List, [], ◌∷◌, sym, refl, ap, ◌∙◌, subst, ap₂, inl, inr, mod-lt, mod-eq_of_lt, arith, pow_pos}
+use Rattle.std.proofs.Common.{◌≡◌, ℕ, ◌+◌, ◌-◌, ◌*◌, ◌%◌, ◌<◌, ◌≤◌, ◌⊎◌, [], ◌∷◌, sym, refl, ap, ◌∙◌, subst, inl, inr, mod-lt, mod-eq_of_lt, arith}
 use native.Mathlib.Nat.{add-mod_right}
 use Rattle.std.proofs.lemmas.Bool.{cases_eq, cases_lt}
-use Rattle.algebra.proofs.Solver.{var, unity, ◌⊕◌, ◌⊗◌, ⊝◌, pt, unit, ◌·◌, inv, ◌^◌ as ◌↑◌, given, solve, same_of_quotient}
+use Rattle.algebra.proofs.Solver.{var, unity, ⊝◌, pt, ◌·◌, inv, ◌^◌ as ◌↑◌, given, solve, same_of_quotient}
 use Rattle.group.proofs.Powers.{power_add, power_mul, power_mod, power_zero, power_first, power_of_one, inverse_only}
 use Rattle.group.specs.Exponents.{Exponents, ExponentLaws, sum, difference, product}
 use Rattle.group.specs.Operations.{Operations, GroupLaws, power, quotient}

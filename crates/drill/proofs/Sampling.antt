@@ -1,13 +1,13 @@
 -- A witness that is not refused shows its exponent: at z, A^z·B = (y^z·g)^γ.
-use Rattle.std.proofs.Common.{◌≡◌, ℕ, suc, ◌+◌, ◌%◌, ◌^◌, ◌<◌, ◌≤◌, Bool, true, false, eqb, ltb, leb, List, [], ◌∷◌, map, length, None, sym, refl, ap, ◌∙◌, subst, ap₂, mod-eq_of_lt, arith, ltb-true, eqb-true, leb-false, leb-true}
+use Rattle.std.proofs.Common.{◌≡◌, ℕ, suc, ◌%◌, ◌^◌, ◌<◌, ◌≤◌, Bool, true, false, eqb, ltb, leb, List, [], ◌∷◌, map, length, None, sym, refl, ap, ◌∙◌, ap₂, mod-eq_of_lt, arith, ltb-true, eqb-true, leb-false, leb-true}
 use borrow.Author.Tests.{eqb-false}
 use lib.Bits.{bit_xor}
 use Rattle.elgamal.specs.Ciphertexts.{multiplied}
 use Rattle.elgamal.specs.declared.Ciphertext.{Ciphertext}
 use Rattle.equivalence.proofs.SamePoint.{point_told}
 use Rattle.equivalence.specs.Equations.{folded_key, folded_quotient, accepted}
-use Rattle.group.specs.Exponents.{Exponents, ExponentLaws, remainder, difference, product}
-use Rattle.group.specs.Operations.{Operations, GroupLaws, power, quotient}
+use Rattle.group.specs.Exponents.{Exponents, ExponentLaws, remainder}
+use Rattle.group.specs.Operations.{Operations, GroupLaws, quotient}
 use Rattle.plan.specs.declared.Setting.{Setting}
 use Rattle.plan.specs.declared.Setting.TheVariants.{Straight, Swapped}
 use Rattle.posting.specs.declared.comparison.Comparison.{Comparison}
@@ -15,7 +15,6 @@ use Rattle.witness.proofs.Gathering.{counted}
 use Rattle.witness.specs.Refusals.{both, challenge_fits, answer_fits, transcript_fits, transcript_accepted, splits, judge_equivalence, judge_disjunctive}
 use Rattle.witness.specs.Samples.{gamma, equivalence_sample, disjunctive_sample, drawn, on_branch, majority, first_three, chosen, examination}
 use Rattle.witness.specs.Witnesses.{EquivalenceWitness, DisjunctiveWitness}
-use Rattle.witness.specs.declared.posted.Answer.{Answer}
 use Rattle.witness.specs.declared.posted.Disjunction.{Disjunction}
 use Rattle.witness.specs.declared.posted.Transcript.{Transcript}
 use Rattle.witness.specs.declared.samples.Drawn.{Drawn}

@@ -18,7 +18,7 @@ use Rattle.witness.specs.declared.samples.Samples.{Samples}
 use Rattle.drill.specs.Findings.{ordered, answer}
 use Rattle.drill.specs.Formula.{formula, conclusion}
 use Rattle.drill.specs.Meaning.{Reencrypts, Keeps, Shown}
-use Rattle.drill.specs.Rule.{AllEqual, Fits, TheKey, Concluded, Found, Drilled}
+use Rattle.drill.specs.Rule.{AllEqual, TheKey, Concluded, Found, Drilled}
 use Rattle.drill.specs.declared.finding.Conclusion.{Conclusion}
 use Rattle.drill.specs.declared.finding.Conclusion.TheVariants.{Common, Key as KeyOf}
 use Rattle.drill.specs.declared.finding.Finding.{Finding}

@@ -1,5 +1,5 @@
 -- How the key is computed: by second differences, -top / bottom. The rule says which key it is.
-use Rattle.std.specs.Prelude.{ℕ, Bool, true, false, ◌==◌}
+use Rattle.std.specs.Prelude.{ℕ, true, false, ◌==◌}
 use Rattle.group.specs.Exponents.{Exponents, remainder, sum, difference, product}
 use Rattle.witness.specs.Refusals.{both}
 use Rattle.witness.specs.declared.samples.Examination.{Examination}

@@ -1,7 +1,7 @@
 -- What encrypting, re-encrypting and multiplying do to plaintexts.
-use Rattle.std.proofs.Common.{◌≡◌, ℕ, ◌+◌, ◌%◌, List, [], ◌∷◌, sym, refl, ap, ◌∙◌, ap₂}
-use Rattle.algebra.proofs.Solver.{var, unity, ◌⊕◌, ⊝◌, pt, ◌·◌, inv, ◌^◌, given, solve}
-use Rattle.elgamal.specs.Ciphertexts.{encrypted, reencrypted, multiplied, Carries, SamePlaintext, Joins, Multiplies}
+use Rattle.std.proofs.Common.{◌≡◌, ℕ, ◌+◌, ◌%◌, [], ◌∷◌, sym, refl, ap, ◌∙◌, ap₂}
+use Rattle.algebra.proofs.Solver.{var, ⊝◌, pt, ◌·◌, inv, ◌^◌, given, solve}
+use Rattle.elgamal.specs.Ciphertexts.{encrypted, reencrypted, Carries, SamePlaintext, Joins, Multiplies}
 use Rattle.elgamal.specs.declared.Ciphertext.{Ciphertext}
 use Rattle.group.proofs.Powers.{power_add, power_mod}
 use Rattle.group.specs.Operations.{Operations, GroupLaws, power}

@@ -1,16 +1,16 @@
 -- A comparator is taken exactly where its proofs hold.
-use Rattle.std.proofs.Common.{◌≡◌, ℕ, ◌+◌, ◌*◌, ◌^◌, ◌<◌, ◌≤◌, Bool, true, false, ltb, is_ok, Some, None, Ok, Err, Option, Result, sym, refl, ap, ◌∙◌, arith, ltb-true, lt-ltb, eq-eqb, eqb-true}
+use Rattle.std.proofs.Common.{◌≡◌, ℕ, ◌+◌, ◌^◌, ◌<◌, Bool, true, false, ltb, is_ok, Some, None, Ok, Err, Option, Result, refl, ◌∙◌, arith, ltb-true, lt-ltb, eq-eqb, eqb-true}
 use Rattle.group.specs.Exponents.{Exponents}
 use Rattle.group.specs.Operations.{Operations, GroupLaws}
 use Rattle.posting.specs.declared.comparison.Comparison.{Comparison}
 use Rattle.refusal.specs.declared.Reason.{Reason}
-use Rattle.refusal.specs.declared.Reason.TheVariants.{UnfitLength, UnfitNumber, BeyondReach, ProductProof, ChallengeSplit, FirstBranch, SecondBranch}
+use Rattle.refusal.specs.declared.Reason.TheVariants.{UnfitNumber, BeyondReach, ProductProof, ChallengeSplit, FirstBranch, SecondBranch}
 use Rattle.refusal.specs.declared.Refusal.{Refusal}
 use Rattle.source.specs.Words.{Words}
 use Rattle.equivalence.proofs.Judging.{none_fails, equations_left}
 use Rattle.equivalence.proofs.SamePoint.{point_same, point_told}
-use Rattle.equivalence.specs.Holding.{BranchFits, Equations, Holds}
-use Rattle.equivalence.specs.Judgement.{branch_fits, numbers_fit, Draws, draws, both, unless, equivalence_test, split_test, first_test, second_test, judge_equations, judge, Answered}
+use Rattle.equivalence.specs.Holding.{BranchFits, Holds}
+use Rattle.equivalence.specs.Judgement.{branch_fits, numbers_fit, draws, both, unless, equivalence_test, split_test, first_test, second_test, judge_equations, judge, Answered}
 use Rattle.equivalence.specs.declared.proofs.Branch.{Branch}
 use Rattle.equivalence.specs.declared.proofs.Proofs.{Proofs}
 

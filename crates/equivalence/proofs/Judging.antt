@@ -1,5 +1,5 @@
 -- Which equation fails first, by its tests.
-use Rattle.std.proofs.Common.{◌≡◌, ℕ, ◌+◌, ◌<◌, ◌≤◌, Bool, true, false, Some, None, Ok, Err, Option, Result, sym, ap, ◌∙◌, le-ltb, lt-ltb}
+use Rattle.std.proofs.Common.{◌≡◌, ℕ, ◌+◌, ◌<◌, ◌≤◌, Bool, true, false, Some, None, Err, sym, ap, ◌∙◌, le-ltb, lt-ltb}
 use Rattle.group.specs.Exponents.{Exponents}
 use Rattle.group.specs.Operations.{Operations}
 use Rattle.refusal.specs.Table.{refused_at}

@@ -1,5 +1,5 @@
 -- The test that two points are equal.
-use Rattle.std.proofs.Common.{◌≡◌, ℕ, Bool, true, false, T, eqb, List, [], ◌∷◌, sym, refl, ap, ◌∙◌, subst, ap₂, arith, eqb→eq}
+use Rattle.std.proofs.Common.{◌≡◌, ℕ, Bool, true, false, T, eqb, List, [], ◌∷◌, sym, refl, ap, ◌∙◌, subst, ap₂, eqb→eq}
 use lib.Dec.{eqb_refl}
 use Rattle.group.specs.Operations.{Operations, GroupLaws}
 use Rattle.equivalence.specs.Equations.{same_bytes, same_point}

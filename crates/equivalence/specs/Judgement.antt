@@ -1,14 +1,14 @@
 -- The check of a comparator: which of its conditions fails first.
-use Rattle.std.specs.Prelude.{◌≡◌, ℕ, ◌+◌, ◌*◌, ◌^◌, ◌<◌, Bool, true, false, List, [], ◌∷◌, Some, None, Ok, Err, Option, Result, ◌==◌, bit_xor, nat_lt}
+use Rattle.std.specs.Prelude.{◌≡◌, ℕ, ◌+◌, ◌^◌, Bool, true, false, List, [], ◌∷◌, Some, None, Ok, Err, Option, Result, ◌==◌, bit_xor, nat_lt}
 use Rattle.elgamal.specs.Ciphertexts.{multiplied}
 use Rattle.group.specs.Exponents.{Exponents}
 use Rattle.group.specs.Operations.{Operations}
 use Rattle.refusal.specs.Table.{refused_at}
 use Rattle.refusal.specs.declared.Reason.{Reason}
-use Rattle.refusal.specs.declared.Reason.TheVariants.{UnfitLength, UnfitNumber, BeyondReach, ProductProof, ChallengeSplit, FirstBranch, SecondBranch}
+use Rattle.refusal.specs.declared.Reason.TheVariants.{UnfitNumber, BeyondReach, ProductProof, ChallengeSplit, FirstBranch, SecondBranch}
 use Rattle.refusal.specs.declared.Refusal.{Refusal}
 use Rattle.source.specs.Words.{Words, z_of, c_of}
-use Rattle.equivalence.specs.Equations.{folded_key, folded_quotient, Accepted, accepted}
+use Rattle.equivalence.specs.Equations.{folded_key, folded_quotient, accepted}
 use Rattle.posting.specs.Comparison.{posted}
 use Rattle.posting.specs.Posting.{codes}
 use Rattle.posting.specs.declared.comparison.Comparison.{Comparison}

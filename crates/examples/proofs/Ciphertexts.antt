@@ -1,4 +1,4 @@
-use Rattle.std.proofs.Common.{◌≡◌, ℕ, ◌^◌, ◌<◌, T, refl, subst, arith}
+use Rattle.std.proofs.Common.{ℕ, ◌^◌, ◌<◌, T, refl, subst, arith}
 use Rattle.group.proofs.FourBytes.{own_bytes}
 use Rattle.group.specs.Operations.{power}
 use Rattle.modular.specs.Residues.{member, member_below}

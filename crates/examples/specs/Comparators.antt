@@ -1,6 +1,5 @@
 -- The two proofs and an honest comparator, in group 1 under the key 8.
 use Rattle.std.specs.Prelude.{◌≡◌, ℕ, true, false, List, [], ◌∷◌, Some, None}
-use Rattle.elgamal.specs.declared.Ciphertext.{Ciphertext}
 use Rattle.equivalence.specs.Equations.{folded_key, folded_quotient, accepted}
 use Rattle.equivalence.specs.Judgement.{judge}
 use Rattle.equivalence.specs.declared.proofs.Proofs.{Proofs}

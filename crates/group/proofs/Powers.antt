@@ -1,5 +1,5 @@
 -- What the laws of a group give of powers.
-use Rattle.std.proofs.Common.{◌≡◌, ℕ, zero, suc, ◌+◌, ◌-◌, ◌*◌, ◌/◌, ◌%◌, ◌<◌, sym, refl, ap, ◌∙◌, mul_comm, add_comm, suc-add, mul-zero, zero-add, mul-suc, arith}
+use Rattle.std.proofs.Common.{◌≡◌, ℕ, zero, suc, ◌+◌, ◌-◌, ◌*◌, ◌/◌, ◌%◌, sym, refl, ap, ◌∙◌, mul_comm, add_comm, suc-add, mul-zero, zero-add, mul-suc, arith}
 use native.Mathlib.Nat.{div-add-mod}
 use Rattle.group.specs.Operations.{Operations, GroupLaws, power}
 

@@ -1,5 +1,5 @@
 -- What is said of a part of a check is said of the whole.
-use Rattle.std.proofs.Common.{ℕ, ◌⊎◌, List, IfOk, Ok, Err, Result, inl, inr, MatchResult}
+use Rattle.std.proofs.Common.{ℕ, List, IfOk, Ok, Err, Result, inl, inr, MatchResult}
 use Rattle.plan.specs.declared.Comparator.{Comparator}
 use Rattle.refusal.specs.declared.Refusal.{Refusal}
 use Rattle.roundcheck.specs.declared.report.Ending.{Ending}

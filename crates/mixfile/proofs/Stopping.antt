@@ -1,5 +1,5 @@
 -- Why no honest step is made.
-use Rattle.std.proofs.Common.{◌≡◌, ℕ, ◌+◌, Bool, true, false, eqb, ltb, ◌⊎◌, Some, None, Ok, Err, Option, sym, refl, ap, ◌∙◌, inl, inr, arith}
+use Rattle.std.proofs.Common.{◌≡◌, ℕ, ◌+◌, Bool, true, false, eqb, ltb, ◌⊎◌, Some, None, Err, Option, sym, refl, ap, ◌∙◌, inl, inr, arith}
 use Rattle.board.specs.Calls.{Terms, question}
 use Rattle.board.specs.Serving.{next_comparator, judge_reach, judge_honest}
 use Rattle.board.specs.States.{State}
@@ -8,7 +8,6 @@ use Rattle.equivalence.specs.Judgement.{both, unless}
 use Rattle.plan.specs.declared.Comparator.{Comparator}
 use Rattle.posting.specs.Drawing.{buffer_fits}
 use Rattle.prover.specs.States.{Outcome}
-use Rattle.refusal.specs.Table.{refused_at}
 use Rattle.refusal.specs.declared.Reason.{Reason}
 use Rattle.refusal.specs.declared.Reason.TheVariants.{UnfitLength, WrongStage, BeyondReach}
 use Rattle.refusal.specs.declared.Refusal.{Refusal}

@@ -1,5 +1,5 @@
 -- A turn on a whole file: the file is checked as any other, and then the turn is served.
-use Rattle.std.specs.Prelude.{◌≡◌, ℕ, ◌⊎◌, List, length, Some, Ok, Err, Result}
+use Rattle.std.specs.Prelude.{◌≡◌, ℕ, ◌⊎◌, List, length, Some, Ok}
 use Rattle.board.specs.declared.verdict.Standing.{Standing}
 use Rattle.plan.specs.declared.Comparator.{Comparator}
 use Rattle.refusal.specs.Table.{refused_at}

@@ -4,8 +4,8 @@ use Rattle.std.proofs.Common.{sym, ap, ◌∙◌, mod-lt, one-mul, not-suc-le-ze
 use Rattle.group.specs.Exponents.{ExponentLaws}
 use Rattle.modular.specs.Modular.{modular, inverse_test, order_test}
 use Rattle.modular.specs.Remainders.{zero_pow}
-use Rattle.modular.specs.Squaring.{squaring, squaring_is}
-use Rattle.modular.specs.Tests.{both, both_first, both_second, every, every_at}
+use Rattle.modular.specs.Squaring.{squaring_is}
+use Rattle.modular.specs.Tests.{both_first, both_second, every, every_at}
 
 -- What the test tells.
 pub record Tested (q bits : ℕ) : Type 0 where

@@ -1,5 +1,5 @@
 -- The exponents modulo a prime q: the inverse of n is its power by q - 2.
-use Rattle.std.specs.Prelude.{◌≡◌, ℕ, suc, ◌-◌, ◌*◌, ◌%◌, ◌^◌, Bool, ◌==◌, nat_le, nat_lt}
+use Rattle.std.specs.Prelude.{ℕ, suc, ◌-◌, ◌*◌, ◌%◌, ◌^◌, Bool, ◌==◌, nat_le, nat_lt}
 use Rattle.group.specs.Exponents.{Exponents}
 use Rattle.modular.specs.Squaring.{squaring}
 use Rattle.modular.specs.Tests.{both, every}

@@ -1,5 +1,5 @@
 -- Remainders of products and powers.
-use Rattle.std.specs.Prelude.{◌≡◌, ℕ, zero, suc, ◌+◌, ◌*◌, ◌/◌, ◌%◌, ◌^◌, ◌<◌, refl}
+use Rattle.std.specs.Prelude.{◌≡◌, ℕ, zero, suc, ◌+◌, ◌*◌, ◌/◌, ◌%◌, ◌^◌, ◌<◌}
 use Rattle.std.proofs.Common.{sym, ap, ◌∙◌, add-mul, mul_assoc, mul_comm, pow-suc, mul-one, mul-zero, not-suc-le-zero}
 use Rattle.std.proofs.Math.Nat.{div-add-mod, mul-mul-mul_comm, mul-add-mod_self_left, pow-zero, zero-mod}
 

@@ -4,12 +4,12 @@ use Rattle.std.proofs.Math.Path.{sym, ap}
 use Rattle.std.proofs.Common.{◌∙◌, mul_assoc, mul_comm, one-mul, arith, ltb→lt, leb→le}
 use mathlib.Core.HLevel.{Σ_prop_path}
 use Rattle.std.proofs.Math.Nat.{mod-eq_of_lt, pow-zero, pow-succ'}
-use Rattle.std.proofs.Math.Dec.{T_prop, eqb_refl}
+use Rattle.std.proofs.Math.Dec.{T_prop}
 use Rattle.group.proofs.FourBytes.{own_bytes}
 use Rattle.group.specs.Operations.{GroupLaws, power}
 use Rattle.modular.specs.Remainders.{mod_mul_left, mod_mul_right}
 use Rattle.modular.specs.Residues.{member, Residue, subgroup_test, member_below, member_power, large_of, residues}
-use Rattle.modular.specs.Tests.{both, both_first, both_second}
+use Rattle.modular.specs.Tests.{both_first, both_second}
 
 -- two elements are equal where their numbers are
 pub residue_path : (p q : ℕ) (x y : Residue p q) → x.0 ≡ y.0 → x ≡ y

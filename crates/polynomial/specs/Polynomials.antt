@@ -1,6 +1,6 @@
 -- The group of the polynomials but 0, of order 8191, from the generator t.
 use Rattle.std.specs.Prelude.{◌≡◌, ℕ, zero, suc, ◌+◌, ◌<◌, Bool, T, nat_lt}
-use Rattle.std.proofs.Common.{sym, ap, ap₂, subst, ◌∙◌, ltb→lt, lt→ltb}
+use Rattle.std.proofs.Common.{sym, ap₂, subst, ◌∙◌, ltb→lt, lt→ltb}
 use Rattle.group.specs.Codes.{four_bytes}
 use Rattle.group.specs.Operations.{Operations}
 use Rattle.modular.specs.Tests.{both, both_first, both_second, both_made}

@@ -1,5 +1,5 @@
 -- Answers that are accepted: to a true commitment, and to a simulated one.
-use Rattle.std.proofs.Common.{◌≡◌, ℕ, ◌+◌, ◌*◌, ◌%◌, List, [], ◌∷◌, sym, refl, ap, ◌∙◌, mul_comm}
+use Rattle.std.proofs.Common.{◌≡◌, ℕ, ◌+◌, ◌*◌, ◌%◌, [], ◌∷◌, sym, refl, ap, ◌∙◌, mul_comm}
 use Rattle.algebra.proofs.Solver.{var, ◌⊕◌, pt, ◌·◌, inv, ◌^◌, solve}
 use Rattle.elgamal.specs.Ciphertexts.{reencrypted, multiplied}
 use Rattle.elgamal.specs.declared.Ciphertext.{Ciphertext}

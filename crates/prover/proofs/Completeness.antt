@@ -1,14 +1,14 @@
 -- What an honest comparator posts is taken, at the same draws.
-use Rattle.std.proofs.Common.{◌≡◌, ℕ, ◌+◌, ◌%◌, ◌^◌, ◌<◌, ◌≤◌, true, None, sym, ap, ◌∙◌, mod-lt, arith, pow_pos, lt-ltb, eq-eqb}
+use Rattle.std.proofs.Common.{◌≡◌, ℕ, ◌+◌, ◌^◌, ◌<◌, true, None, ap, ◌∙◌, mod-lt, arith, pow_pos, lt-ltb, eq-eqb}
 use lib.Bits.{bit_xor, xor_lt, xor_assoc, xor_comm, xor_self, xor_zero_r}
 use Rattle.equivalence.proofs.Judging.{none_fails, equations_left}
 use Rattle.equivalence.proofs.SamePoint.{point_same}
-use Rattle.equivalence.specs.Equations.{folded_key, folded_quotient, Accepted, accepted}
+use Rattle.equivalence.specs.Equations.{folded_key, Accepted, accepted}
 use Rattle.equivalence.specs.Judgement.{branch_fits, numbers_fit, judge, draws}
 use Rattle.equivalence.specs.declared.proofs.Branch.{Branch}
 use Rattle.equivalence.specs.declared.proofs.Proofs.{Proofs}
 use Rattle.group.specs.Exponents.{Exponents, ExponentLaws, sum}
-use Rattle.group.specs.Operations.{Operations, GroupLaws, power}
+use Rattle.group.specs.Operations.{Operations, GroupLaws}
 use Rattle.plan.specs.declared.Setting.{Setting}
 use Rattle.plan.specs.declared.Setting.TheVariants.{Straight, Swapped}
 use Rattle.posting.specs.declared.comparison.Pair.{Pair}

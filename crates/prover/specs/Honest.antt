@@ -1,10 +1,9 @@
 -- What an honest comparator makes, commits to and answers.
-use Rattle.std.specs.Prelude.{ℕ, ◌+◌, List, [], ◌∷◌, bit_xor}
+use Rattle.std.specs.Prelude.{ℕ, ◌+◌, [], ◌∷◌, bit_xor}
 use Rattle.elgamal.specs.Ciphertexts.{reencrypted}
 use Rattle.elgamal.specs.declared.Ciphertext.{Ciphertext}
 use Rattle.equivalence.specs.Equations.{folded_key, folded_quotient}
 use Rattle.equivalence.specs.declared.proofs.Branch.{Branch}
-use Rattle.equivalence.specs.declared.proofs.DisjunctiveProof.{DisjunctiveProof}
 use Rattle.equivalence.specs.declared.proofs.Proofs.{Proofs}
 use Rattle.group.specs.Exponents.{Exponents, sum, product}
 use Rattle.group.specs.Operations.{Operations, power, quotient}

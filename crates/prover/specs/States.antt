@@ -1,5 +1,5 @@
 -- The states of an honest comparator, over points and numbers.
-use Rattle.std.specs.Prelude.{◌≡◌, ℕ, ◌+◌, Bool, true, false, Some, None, Ok, Err, Option, Result, nat_lt}
+use Rattle.std.specs.Prelude.{◌≡◌, ℕ, ◌+◌, Some, None, Ok, Err, Option, Result, nat_lt}
 use Rattle.equivalence.specs.Judgement.{unless, proofs_meaning, judge}
 use Rattle.group.specs.Exponents.{Exponents}
 use Rattle.group.specs.Operations.{Operations}

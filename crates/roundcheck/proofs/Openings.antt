@@ -1,5 +1,5 @@
 -- How what an opening answers makes the check of a round.
-use Rattle.std.proofs.Common.{◌≡◌, ℕ, List, [], ◌∷◌, ◌++◌, IfOk, Some, None, Ok, Err, Option, Result, sym, refl, ap, ◌∙◌, subst, inl, inr}
+use Rattle.std.proofs.Common.{◌≡◌, ℕ, List, [], ◌∷◌, ◌++◌, IfOk, Some, None, Ok, Err, Option, Result, sym, refl, ap, ◌∙◌, subst, inr}
 use Rattle.board.specs.Calls.{terms}
 use Rattle.board.specs.Rounds.{judge_open, blank}
 use Rattle.board.specs.States.{State, opened}

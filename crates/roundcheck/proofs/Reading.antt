@@ -1,5 +1,5 @@
 -- What a call of the reader tells of the step that it made, and which records are not the wanted ones.
-use Rattle.std.proofs.Common.{◌≡◌, ℕ, Some, None, Ok, Err, sym, refl, ap, ◌∙◌, arith}
+use Rattle.std.proofs.Common.{◌≡◌, ℕ, Some, None, Ok, Err, refl, arith}
 use Rattle.refusal.specs.Table.{refused_at}
 use Rattle.refusal.specs.declared.Reason.TheVariants.{MisplacedRecord}
 use Rattle.refusal.specs.declared.Refusal.{Refusal}

@@ -1,8 +1,7 @@
 -- Draws that repeat, along a list.
-use Rattle.std.proofs.Common.{◌≡◌, ℕ, suc, ◌+◌, ◌<◌, ◌≤◌, Bool, true, false, eqb, List, [], ◌∷◌, ◌++◌, map, length, get_or, take, drop, Some, None, Option, sym, refl, ap, ◌∙◌, ap₂, add-zero, add-one, arith, drop_of_length-le, drop-cons, take-suc}
+use Rattle.std.proofs.Common.{◌≡◌, ℕ, ◌+◌, ◌<◌, ◌≤◌, true, false, eqb, List, [], ◌∷◌, ◌++◌, map, length, get_or, take, drop, Some, None, sym, refl, ap, ◌∙◌, ap₂, add-one, arith, drop_of_length-le, drop-cons, take-suc}
 use Rattle.refusal.specs.Table.{refused_at}
 use Rattle.refusal.specs.declared.Reason.TheVariants.{EqualDraws}
-use Rattle.refusal.specs.declared.Refusal.{Refusal}
 use Rattle.witness.specs.Refusals.{draws, stands, repeated}
 use Rattle.witness.specs.declared.posted.Witness.{Witness}
 

@@ -1,10 +1,10 @@
 -- Three of five: one branch has them, and they are found one after another.
-use Rattle.std.proofs.Common.{◌≡◌, ℕ, zero, suc, ◌+◌, ◌<◌, ◌≤◌, Bool, true, false, leb, List, [], ◌∷◌, ◌++◌, length, get_or, take, sym, refl, ap, ◌∙◌, subst, ap₂, arith, le-leb}
+use Rattle.std.proofs.Common.{◌≡◌, ℕ, suc, ◌+◌, ◌<◌, ◌≤◌, Bool, true, false, List, [], ◌∷◌, ◌++◌, length, take, sym, refl, ap, ◌∙◌, arith, le-leb}
 use borrow.Author.Tests.{lt-leb}
 use Rattle.plan.specs.declared.Setting.{Setting}
 use Rattle.plan.specs.declared.Setting.TheVariants.{Straight, Swapped}
 use Rattle.witness.specs.Gathering.{gathered_meaning, one_more, gather}
-use Rattle.witness.specs.Samples.{same_setting, on_branch, majority, first_three, chosen, nothing}
+use Rattle.witness.specs.Samples.{same_setting, on_branch, majority, first_three, chosen}
 use Rattle.witness.specs.declared.samples.Drawn.{Drawn}
 use Rattle.witness.specs.declared.samples.Gathered.{Gathered}
 use Rattle.witness.specs.declared.samples.Gathered.TheVariants.{Nothing, One, Two, Three}

@@ -1,5 +1,5 @@
 -- How the first three samples of a branch are found: one after another.
-use Rattle.std.specs.Prelude.{ℕ, true, false, List, [], ◌∷◌}
+use Rattle.std.specs.Prelude.{ℕ, true, false}
 use Rattle.plan.specs.declared.Setting.{Setting}
 use Rattle.witness.specs.Samples.{sample_meaning, samples_meaning, same_setting}
 use Rattle.witness.specs.declared.samples.Drawn.{Drawn}

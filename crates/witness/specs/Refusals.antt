@@ -1,5 +1,5 @@
 -- Which witness is refused first, and why.
-use Rattle.std.specs.Prelude.{ℕ, ◌+◌, ◌^◌, Bool, true, false, not, List, [], ◌∷◌, ◌++◌, map, length, Some, None, Option, ◌==◌, bit_xor, nat_lt}
+use Rattle.std.specs.Prelude.{ℕ, ◌+◌, ◌^◌, Bool, true, false, not, List, [], ◌∷◌, ◌++◌, length, Some, None, Option, ◌==◌, bit_xor, nat_lt}
 use Rattle.elgamal.specs.Ciphertexts.{multiplied}
 use Rattle.elgamal.specs.declared.Ciphertext.{Ciphertext}
 use Rattle.equivalence.specs.Equations.{folded_key, folded_quotient, accepted}

@@ -1,7 +1,6 @@
 -- Witnesses of elements and posted numbers, as points and numbers.
 use Rattle.std.specs.Prelude.{ℕ}
 use Rattle.witness.specs.declared.posted.Answer.{Answer}
-use Rattle.witness.specs.declared.posted.Challenges.{Challenges}
 use Rattle.witness.specs.declared.posted.Disjunction.{Disjunction}
 use Rattle.witness.specs.declared.posted.Transcript.{Transcript}
 use Rattle.witness.specs.declared.posted.Witness.{Witness}

@@ -1,4 +1,4 @@
-use Rattle.std.proofs.Common.{◌≡◌, ap, ◌∙◌, ap₂}
+use Rattle.std.proofs.Common.{ap, ◌∙◌, ap₂}
 use Rattle.group.specs.Exponents.{difference, product}
 use Rattle.witness.specs.Samples.{samples_meaning}
 use Rattle.drill.specs.Formula.{second, formula}

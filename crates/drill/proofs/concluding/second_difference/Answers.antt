@@ -1,4 +1,4 @@
-use Rattle.std.proofs.Common.{◌≡◌, ap, ◌∙◌, ap₂}
+use Rattle.std.proofs.Common.{ap, ◌∙◌, ap₂}
 use Rattle.group.specs.Exponents.{sum, product}
 use Rattle.drill.specs.Formula.{second}
 use Rattle.drill.proofs.concluding.second_difference.Goals as goal

@@ -1,4 +1,4 @@
-use Rattle.std.proofs.Common.{◌≡◌, ℕ, List, length, Some, Ok, vec_items, sym, refl, ap, ◌∙◌, subst, rules}
+use Rattle.std.proofs.Common.{◌≡◌, length, Some, Ok, vec_items, sym, ap, ◌∙◌, rules}
 use Rattle.modular.specs.Modular.{modular}
 use Rattle.modular.specs.Residues.{residues}
 use Rattle.polynomial.specs.Polynomials.{polynomials}

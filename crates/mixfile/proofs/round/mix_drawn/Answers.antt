@@ -1,4 +1,4 @@
-use Rattle.std.proofs.Common.{◌≡◌, ℕ, List, [], ◌++◌, length, vec_items, sym, refl, ap, ◌∙◌, subst, ap₂, inl}
+use Rattle.std.proofs.Common.{◌≡◌, ℕ, List, [], ◌++◌, length, vec_items, sym, refl, ◌∙◌, subst, ap₂, inl}
 use Rattle.std.proofs.lemmas.List.{append-nil}
 use Rattle.board.specs.Calls.{terms}
 use Rattle.board.specs.States.{view, state_map}

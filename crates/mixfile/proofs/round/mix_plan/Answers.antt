@@ -7,9 +7,7 @@ use Rattle.refusal.specs.declared.Refusal.{Refusal}
 use Rattle.roundcheck.specs.Checks.{plan_kind, ChecksRound, ChecksPlan}
 use Rattle.roundcheck.specs.declared.kinds.PlanKind.{PlanKind}
 use Rattle.roundcheck.specs.declared.kinds.PlanKind.TheVariants.{Chain, Butterfly}
-use Rattle.roundcheck.specs.declared.report.Ending.{Ending}
 use Rattle.roundcheck.specs.declared.report.Ending.TheVariants.{Refused}
-use Rattle.roundcheck.specs.declared.report.Line.{Line}
 use Rattle.roundfile.specs.Reading.{place}
 use Rattle.mixfile.proofs.Passing.{passed_on}
 use Rattle.mixfile.specs.Mixing.{OpeningPlan}

@@ -1,11 +1,11 @@
-use Rattle.std.proofs.Common.{◌≡◌, List, length, vec_items, sym, refl, ap, ◌∙◌, subst, inl, inr}
+use Rattle.std.proofs.Common.{length, vec_items, refl, subst, inl, inr}
 use Rattle.board.specs.Calls.{terms}
 use Rattle.board.specs.States.{view, state_map}
 use Rattle.elgamal.specs.Ciphertexts.{meaning}
 use Rattle.roundcheck.specs.Runs.{Runs}
 use Rattle.roundcheck.specs.declared.report.Ending.{Ending}
 use Rattle.roundfile.specs.Reading.{place}
-use Rattle.mixfile.specs.Turns.{Served, Unserved}
+use Rattle.mixfile.specs.Turns.{Unserved}
 use Rattle.mixfile.proofs.round.mix_records.Goals as goal
 
 pub returns-in-Refused : goal.returns-in-Refused

@@ -1,7 +1,6 @@
-use Rattle.std.proofs.Common.{◌≡◌, ℕ, ◌+◌, List, [], ◌∷◌, ◌++◌, length, vec_items, ap, ◌∙◌, ap₂, arith, length-append}
+use Rattle.std.proofs.Common.{ℕ, ◌+◌, List, [], ◌∷◌, ◌++◌, vec_items, ap, ◌∙◌, ap₂, length-append}
 use Rattle.std.proofs.lemmas.List.{flat_map_more}
 use Rattle.roundfile.specs.Writing.{comparator_bytes}
-use Rattle.roundfile.specs.declared.parts.Comparator.{Comparator}
 use Rattle.mixfile.proofs.turn.add_records.Goals as goal
 
 pub loop-k-preserved : goal.loop-k-preserved

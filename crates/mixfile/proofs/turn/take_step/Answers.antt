@@ -1,5 +1,5 @@
-use Rattle.std.proofs.Common.{◌≡◌, length, sym, ap, ◌∙◌, subst}
-use Rattle.board.specs.Calls.{terms, after_call, Happens}
+use Rattle.std.proofs.Common.{length, ap, ◌∙◌, subst}
+use Rattle.board.specs.Calls.{terms, Happens}
 use Rattle.board.specs.States.{view, state_map}
 use Rattle.board.specs.declared.board.Board.{Board}
 use Rattle.board.specs.declared.events.Event.TheVariants.{Step}

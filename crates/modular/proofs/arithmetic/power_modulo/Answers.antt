@@ -1,4 +1,4 @@
-use Rattle.std.proofs.Common.{◌≡◌, ℕ, ◌*◌, ◌/◌, ◌%◌, ◌^◌, ◌<◌, sym, ap, ◌∙◌, subst, mod-lt, arith}
+use Rattle.std.proofs.Common.{◌≡◌, ℕ, ◌*◌, ◌/◌, ◌%◌, ◌^◌, ◌<◌, sym, ◌∙◌, subst, mod-lt, arith}
 use Rattle.modular.specs.Squaring.{even_turn, odd_turn, no_turn}
 use Rattle.modular.proofs.arithmetic.power_modulo.Goals as goal
 use Rattle.modular.proofs.arithmetic.power_modulo.Goals.{then-left-eq1, else-left-eq1}

@@ -1,4 +1,4 @@
-use Rattle.std.proofs.Common.{ℕ, ◌*◌, ◌^◌, ◌<◌, ◌≤◌, refl, mul-le-mul, arith}
+use Rattle.std.proofs.Common.{ℕ, ◌*◌, ◌<◌, ◌≤◌, refl, mul-le-mul, arith}
 use Rattle.modular.proofs.arithmetic.product.Goals as goal
 
 bound : (a b : ℕ) → a < 8192 → b < 8192 → a * b ≤ 8191 * 8191

@@ -1,4 +1,4 @@
-use Rattle.std.proofs.Common.{◌≡◌, ℕ, List, sym, ◌∙◌, subst}
+use Rattle.std.proofs.Common.{ℕ, List, subst}
 use Rattle.posting.proofs.Appending.{appended_both, front}
 use Rattle.source.specs.Words.{Drawn}
 use Rattle.posting.proofs.drawing.draw_within.Goals as goal

@@ -1,11 +1,10 @@
-use Rattle.std.proofs.Common.{◌≡◌, ℕ, ◌^◌, ◌<◌, length, None, ap, ◌∙◌, subst, mod-lt, arith, pow_pos, rules, eq-eqb}
-use lib.ListN.{length-replicate}
+use Rattle.std.proofs.Common.{◌≡◌, ℕ, ◌<◌, length, ap, ◌∙◌, subst, mod-lt, arith, pow_pos, rules, eq-eqb}
 use Rattle.equivalence.specs.Judgement.{judge}
 use Rattle.posting.specs.Comparison.{pair_meaning}
 use Rattle.prover.proofs.Completeness.{Fit, honest_taken}
 use Rattle.prover.proofs.Outcomes.{no_refusal, value_made, ready_reaches}
 use Rattle.prover.specs.Secrets.{secrets_of}
-use Rattle.prover.specs.States.{message_meaning, committed_meaning, honest_message, answer_message, committed, outputs_made, unready, Outcome, Taken}
+use Rattle.prover.specs.States.{message_meaning, committed_meaning, honest_message, answer_message, committed, outputs_made, unready, Outcome}
 use Rattle.prover.specs.declared.states.Committed.{Committed}
 use Rattle.prover.specs.declared.states.Message.{Message}
 use Rattle.prover.proofs.honest.prove.Goals as goal

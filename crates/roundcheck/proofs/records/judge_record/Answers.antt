@@ -1,4 +1,4 @@
-use Rattle.std.proofs.Common.{◌≡◌, ℕ, length, Some, Err, Option, sym, subst}
+use Rattle.std.proofs.Common.{ℕ, length, Err, Option, subst}
 use Rattle.board.specs.Calls.{terms, event_meaning}
 use Rattle.board.specs.States.{view, state_map}
 use Rattle.board.specs.declared.events.Event.{Event}

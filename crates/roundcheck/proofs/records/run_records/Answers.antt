@@ -1,4 +1,4 @@
-use Rattle.std.proofs.Common.{◌≡◌, Ok, Err, vec_items, sym, refl, ap, ◌∙◌, subst}
+use Rattle.std.proofs.Common.{Ok, Err, vec_items, sym, refl, ap, ◌∙◌, subst}
 use Rattle.board.specs.Calls.{terms}
 use Rattle.board.specs.States.{view, state_map}
 use Rattle.elgamal.specs.Ciphertexts.{meaning}

@@ -1,4 +1,4 @@
-use Rattle.std.proofs.Common.{◌≡◌, [], vec_items, sym, refl, ap, ◌∙◌, subst}
+use Rattle.std.proofs.Common.{[], vec_items, sym, refl, ◌∙◌}
 use Rattle.std.proofs.lemmas.List.{append-nil}
 use Rattle.roundcheck.proofs.round.check_drawn.Goals as goal
 

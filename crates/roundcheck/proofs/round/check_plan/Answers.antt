@@ -1,4 +1,4 @@
-use Rattle.std.proofs.Common.{◌≡◌, ℕ, ◌^◌, List, Some, vec_items, Option, sym, refl, ap, ◌∙◌, subst, inl}
+use Rattle.std.proofs.Common.{◌≡◌, ℕ, Some, vec_items, Option, sym, refl, ap, ◌∙◌, subst, inl}
 use Rattle.butterfly.specs.Listing.{butterfly}
 use Rattle.chain.specs.Listing.{chain, Fits}
 use Rattle.roundfile.specs.Reading.{place}
@@ -6,7 +6,6 @@ use Rattle.roundcheck.proofs.Openings.{made_more}
 use Rattle.roundcheck.specs.Checks.{plan_kind, ChecksRound, ChecksPlan}
 use Rattle.roundcheck.specs.declared.kinds.PlanKind.{PlanKind}
 use Rattle.roundcheck.specs.declared.kinds.PlanKind.TheVariants.{Chain, Butterfly}
-use Rattle.roundcheck.specs.declared.report.Report.{Report}
 use Rattle.roundcheck.proofs.round.check_plan.Goals as goal
 
 pub returns-in-Ok : goal.returns-in-Ok

@@ -1,4 +1,4 @@
-use Rattle.std.proofs.Common.{◌≡◌, ℕ, List, [], ◌∷◌, ◌++◌, length, Some, None, vec_items, sym, refl, ap, ◌∙◌, subst, ap₂}
+use Rattle.std.proofs.Common.{◌≡◌, ℕ, List, [], ◌∷◌, ◌++◌, length, Some, None, vec_items, sym, ap, ◌∙◌, subst, ap₂}
 use lib.ListN.{length-replicate}
 use Rattle.board.specs.Calls.{terms}
 use Rattle.board.specs.Rounds.{judge_open}

@@ -1,4 +1,4 @@
-use Rattle.std.proofs.Common.{◌≡◌, Err, sym, ap, ◌∙◌}
+use Rattle.std.proofs.Common.{Err, sym, ap, ◌∙◌}
 use Rattle.std.proofs.lemmas.Result.{err_from_is_err_and}
 use Rattle.roundfile.specs.Reading.{place, step}
 use Rattle.roundcheck.proofs.Reading.{gave_by, ended_by, refused_by, no_draws}

@@ -1,4 +1,4 @@
-use Rattle.std.proofs.Common.{◌≡◌, ap, ◌∙◌, ap₂}
+use Rattle.std.proofs.Common.{ap, ◌∙◌, ap₂}
 use Rattle.group.specs.Exponents.{product}
 use Rattle.witness.specs.Samples.{gamma}
 use Rattle.witness.proofs.samples.gamma_of.Goals as goal

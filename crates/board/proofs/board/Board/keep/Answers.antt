@@ -1,4 +1,4 @@
-use Rattle.std.proofs.Common.{◌≡◌, get_or, set, ap, ◌∙◌, arith, length-set}
+use Rattle.std.proofs.Common.{get_or, set, ap, ◌∙◌, arith, length-set}
 use Rattle.elgamal.specs.declared.Ciphertext.{Ciphertext}
 use Rattle.board.proofs.Copies.{copied_more, copied_all}
 use Rattle.board.proofs.Copying.{with_start}

@@ -1,4 +1,4 @@
-use Rattle.std.proofs.Common.{◌≡◌, length, sym, refl, ap, ◌∙◌, subst, arith, rules}
+use Rattle.std.proofs.Common.{length, sym, refl, subst, arith, rules}
 use Rattle.board.proofs.Calling.{post_happens, close_happens, step_happens}
 use Rattle.board.specs.Calls.{terms, event_meaning, Happens}
 use Rattle.board.specs.States.{view, state_map}

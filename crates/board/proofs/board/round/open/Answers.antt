@@ -1,4 +1,4 @@
-use Rattle.std.proofs.Common.{◌≡◌, ℕ, List, map, length, replicate, None, sym, refl, ap, ◌∙◌, subst, ap₂, arith}
+use Rattle.std.proofs.Common.{◌≡◌, ℕ, List, map, length, replicate, None, sym, refl, ap, ◌∙◌, ap₂}
 use Rattle.board.proofs.Meanings.{map_replicate}
 use Rattle.board.proofs.Stepping.{answer_ok}
 use Rattle.board.specs.Rounds.{judge_open, blank}

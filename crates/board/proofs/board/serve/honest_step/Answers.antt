@@ -1,7 +1,6 @@
-use Rattle.std.proofs.Common.{◌≡◌, ℕ, ◌+◌, ◌-◌, ◌*◌, ◌<◌, ◌≤◌, ltb, map, length, Some, None, Option, sym, refl, ap, ◌∙◌, subst, ap₂, arith, rules}
+use Rattle.std.proofs.Common.{◌≡◌, ℕ, ◌+◌, ◌-◌, ◌*◌, ◌≤◌, ltb, length, Some, None, Option, sym, refl, ap, ◌∙◌, subst, ap₂, arith, rules}
 use Rattle.elgamal.specs.Ciphertexts.{meaning}
 use Rattle.equivalence.specs.Judgement.{unless}
-use Rattle.plan.specs.declared.Comparator.{Comparator}
 use Rattle.posting.specs.Comparison.{pair_meaning}
 use Rattle.posting.specs.declared.comparison.Pair.{Pair}
 use Rattle.prover.specs.Secrets.{secrets_of}
@@ -9,11 +8,11 @@ use Rattle.prover.specs.declared.states.Message.{Message}
 use Rattle.prover.specs.States.{Outcome, message_meaning, honest_message, Taken}
 use Rattle.refusal.specs.declared.Reason.{Reason}
 use Rattle.refusal.specs.declared.Reason.TheVariants.{BeyondReach}
-use Rattle.board.proofs.Serving.{Next, next_is, next_map, outcome_more, made_more, inputs_meaning, judged_next, judged_prove, honest_judged}
+use Rattle.board.proofs.Serving.{next_is, next_map, outcome_more, made_more, inputs_meaning, judged_next, judged_prove, honest_judged}
 use Rattle.board.proofs.Stepping.{on_wires}
 use Rattle.board.specs.Calls.{terms, question, judge_call}
 use Rattle.board.specs.Rounds.{blank}
-use Rattle.board.specs.Serving.{HonestStep, honest_step, judge_honest, next_comparator}
+use Rattle.board.specs.Serving.{HonestStep, judge_honest, next_comparator}
 use Rattle.board.specs.States.{view, state_map}
 use Rattle.board.specs.declared.board.Board.{Board}
 use Rattle.board.specs.declared.events.Event.TheVariants.{Step}

@@ -1,4 +1,4 @@
-use Rattle.std.proofs.Common.{◌≡◌, ℕ, ◌+◌, ◌-◌, ◌*◌, ◌<◌, ◌≤◌, map, length, sym, refl, ap, ◌∙◌, subst, ap₂, arith, le-leb}
+use Rattle.std.proofs.Common.{◌≡◌, ℕ, ◌+◌, ◌-◌, ◌*◌, map, length, sym, refl, ap, ◌∙◌, subst, ap₂, arith, le-leb}
 use Rattle.board.proofs.Meanings.{length-map, comparison_at_meaning}
 use Rattle.board.proofs.Stepping.{on_wires, outside, inside, answer_ok, answer_err}
 use Rattle.board.specs.Calls.{terms, judge_step, question}

@@ -1,4 +1,4 @@
-use Rattle.std.proofs.Common.{◌≡◌, ℕ, Bool, true, false, eqb, [], length, sym, refl, ap, ◌∙◌, subst, ap₂, inl, inr, rules}
+use Rattle.std.proofs.Common.{◌≡◌, ℕ, true, eqb, [], length, sym, refl, ap, ◌∙◌, ap₂, inl, inr, rules}
 use Rattle.elgamal.specs.Ciphertexts.{meaning}
 use Rattle.equivalence.specs.Judgement.{both}
 use Rattle.refusal.specs.Table.{refused_at}

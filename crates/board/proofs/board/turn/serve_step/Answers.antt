@@ -1,4 +1,4 @@
-use Rattle.std.proofs.Common.{◌≡◌, ℕ, length, sym, refl, ap, ◌∙◌, subst, ap₂, arith}
+use Rattle.std.proofs.Common.{◌≡◌, ℕ, length, refl, ap, ◌∙◌, ap₂, arith}
 use Rattle.elgamal.specs.Ciphertexts.{meaning}
 use Rattle.posting.specs.Comparison.{pair_meaning}
 use Rattle.posting.specs.declared.comparison.Pair.{Pair}
