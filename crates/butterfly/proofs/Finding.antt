@@ -1,5 +1,5 @@
 -- The comparator at a place of the butterfly, by the part that it is in.
-use Rattle.std.proofs.Common.{◌≡◌, ℕ, zero, suc, ◌+◌, ◌-◌, ◌^◌, ◌<◌, ◌≤◌, List, [], ◌++◌, map, length, Some, None, Option, sym, refl, ap, ◌∙◌, arith}
+use Rattle.std.proofs.Common.{◌≡◌, ℕ, zero, suc, ◌+◌, ◌-◌, ◌*◌, ◌^◌, ◌<◌, ◌≤◌, List, [], ◌++◌, map, length, IfSome, Some, None, Option, sym, refl, ap, ◌∙◌, arith}
 use Rattle.std.specs.List.{range_with_len}
 use Rattle.std.specs.Option.{option_map}
 use Rattle.std.proofs.lemmas.List.{length-map}
@@ -8,26 +8,29 @@ use Rattle.plan.specs.declared.Comparator.{Comparator}
 use Rattle.plan.specs.Plans.{nth}
 use Rattle.plan.proofs.Running.{nth_within}
 use Rattle.plan.proofs.Places.{nth_left, nth_right, nth_map, nth_counting, nth_past}
-use Rattle.butterfly.specs.Halves.{pair, in_half, Below, left_out, layered, network}
-use Rattle.butterfly.specs.Widths.{network_within}
+use Rattle.butterfly.specs.Halves.{pair, in_half, doubled, network}
+use Rattle.butterfly.specs.Network.{network_within}
+use Rattle.butterfly.specs.Placing.{widths}
 
 pub network_none : (k : ℕ) → k ≡ 0 → network k ≡ []
 unfolding network
 network_none zero e = refl
 network_none (suc k) e = absurd (omega arith)
 
-pub network_step : (k m : ℕ) → 0 < k → m ≡ 2 ^ (k - 1) → network k ≡ layered m 0 (network (k - 1)) (network (k - 1))
+pub network_step : (k m : ℕ) → 0 < k → m ≡ 2 ^ (k - 1) → network k ≡ doubled (network (k - 1)) m
 unfolding network
 network_step zero m h f = absurd (omega arith)
 network_step (suc k) m h f =
     let e : k ≡ suc k - 1 = omega arith in
-    ap (λ i. layered (2 ^ i) 0 (network i) (network i)) e ∙ ap (λ i. layered i 0 (network (suc k - 1)) (network (suc k - 1))) (sym f)
+    ap (λ i. doubled (network i) (2 ^ i)) e ∙ ap (doubled (network (suc k - 1))) (sym f)
 
--- the wires of a half's comparator
-pub half_below : (k m i : ℕ) (o : Option Comparator) → 2 ^ k ≤ m → o ≡ nth (network k) i → Below m o
-half_below k m i None l e = tt
-half_below k m i (Some c) l e =
+-- the wires of a half's comparator are below 64
+pub half_below : (k i : ℕ) (o : Option Comparator) → k ≤ 6 → o ≡ nth (network k) i → IfSome o (λ c. (c.first < 64) × (c.second < 64))
+half_below k i None l e = tt
+half_below k i (Some c) l e =
     let w = nth_within (2 ^ k) (network k) i c (network_within k) (sym e) in
+    let b = widths k l in
+    let b1 = b.1 in
     let w0 = w.0 in
     let w1 = w.1 in
     (omega arith, omega arith)
@@ -35,54 +38,43 @@ half_below k m i (Some c) l e =
 nth_pairs : (a m i : ℕ) → i < m → nth (map pair (range_with_len a m)) i ≡ Some (pair (a + i))
 nth_pairs a m i h = nth_map pair (range_with_len a m) i ∙ ap (option_map pair) (nth_counting a m i h)
 
--- the last layer, and what follows the even half, and the first layer
-abbrev last : ℕ → ℕ → List Comparator
-last m e = map pair (range_with_len (left_out e) (m - left_out e))
+abbrev rest : List Comparator → ℕ → List Comparator
+rest cs m = map (in_half 0) cs ++ (map (in_half 1) cs ++ map pair (range_with_len 1 (m - 1)))
 
-abbrev beyond_even : ℕ → ℕ → List Comparator → List Comparator
-beyond_even m e cs₁ = map (in_half m 1) cs₁ ++ last m e
+after_first : (cs : List Comparator) (m k : ℕ) → m ≤ k → nth (doubled cs m) k ≡ nth (rest cs m) (k - m)
+after_first cs m k h = nth_right (map pair (range_with_len 0 m)) (rest cs m) m k (length-map-range_with_len pair 0 m) h
 
-abbrev beyond_first : ℕ → ℕ → List Comparator → List Comparator → List Comparator
-beyond_first m e cs₀ cs₁ = map (in_half m 0) cs₀ ++ beyond_even m e cs₁
+after_even : (cs : List Comparator) (m n k : ℕ) → n ≡ length cs → n ≤ k → nth (rest cs m) k ≡ nth (map (in_half 1) cs ++ map pair (range_with_len 1 (m - 1))) (k - n)
+after_even cs m n k e h = nth_right (map (in_half 0) cs) (map (in_half 1) cs ++ map pair (range_with_len 1 (m - 1))) n k (length-map cs (in_half 0) ∙ sym e) h
 
-after_first : (m e : ℕ) (cs₀ cs₁ : List Comparator) (k : ℕ) → m ≤ k → nth (layered m e cs₀ cs₁) k ≡ nth (beyond_first m e cs₀ cs₁) (k - m)
-after_first m e cs₀ cs₁ k h = nth_right (map pair (range_with_len 0 m)) (beyond_first m e cs₀ cs₁) m k (length-map-range_with_len pair 0 m) h
-
-after_even : (m e : ℕ) (cs₀ cs₁ : List Comparator) (n k : ℕ) → n ≡ length cs₀ → m + n ≤ k → nth (layered m e cs₀ cs₁) k ≡ nth (beyond_even m e cs₁) (k - m - n)
-after_even m e cs₀ cs₁ n k f h =
-    after_first m e cs₀ cs₁ k (omega arith) ∙ nth_right (map (in_half m 0) cs₀) (beyond_even m e cs₁) n (k - m) (length-map cs₀ (in_half m 0) ∙ sym f) (omega arith)
-
-after_odd : (m e : ℕ) (cs₀ cs₁ : List Comparator) (n o k : ℕ) → n ≡ length cs₀ → o ≡ length cs₁ → m + n + o ≤ k →
-    nth (layered m e cs₀ cs₁) k ≡ nth (last m e) (k - m - n - o)
-after_odd m e cs₀ cs₁ n o k f g h =
-    after_even m e cs₀ cs₁ n k f (omega arith) ∙ nth_right (map (in_half m 1) cs₁) (last m e) o (k - m - n) (length-map cs₁ (in_half m 1) ∙ sym g) (omega arith)
-
-pub in_first : (m e : ℕ) (cs₀ cs₁ : List Comparator) (k : ℕ) → k < m → Some (pair k) ≡ nth (layered m e cs₀ cs₁) k
-in_first m e cs₀ cs₁ k h =
+pub in_first : (cs : List Comparator) (m k : ℕ) → k < m → Some (pair k) ≡ nth (doubled cs m) k
+in_first cs m k h =
     let l = length-map-range_with_len pair 0 m in
     let z : 0 + k ≡ k = omega arith in
-    sym (nth_left (map pair (range_with_len 0 m)) (beyond_first m e cs₀ cs₁) k (omega arith) ∙ nth_pairs 0 m k h ∙ ap (λ i. Some (pair i)) z)
+    sym (nth_left (map pair (range_with_len 0 m)) (rest cs m) k (omega arith) ∙ nth_pairs 0 m k h ∙ ap (λ i. Some (pair i)) z)
 
-pub in_even : (m e : ℕ) (cs₀ cs₁ : List Comparator) (n k : ℕ) → n ≡ length cs₀ → m ≤ k → k < m + n →
-    option_map (in_half m 0) (nth cs₀ (k - m)) ≡ nth (layered m e cs₀ cs₁) k
-in_even m e cs₀ cs₁ n k f h l =
-    let s = length-map cs₀ (in_half m 0) in
-    sym (after_first m e cs₀ cs₁ k h ∙ nth_left (map (in_half m 0) cs₀) (beyond_even m e cs₁) (k - m) (omega arith) ∙ nth_map (in_half m 0) cs₀ (k - m))
+pub in_even : (cs : List Comparator) (m n k : ℕ) → n ≡ length cs → m ≤ k → k < m + n → option_map (in_half 0) (nth cs (k - m)) ≡ nth (doubled cs m) k
+in_even cs m n k e h l =
+    let s = length-map cs (in_half 0) in
+    sym (after_first cs m k h ∙ nth_left (map (in_half 0) cs) (map (in_half 1) cs ++ map pair (range_with_len 1 (m - 1))) (k - m) (omega arith) ∙ nth_map (in_half 0) cs (k - m))
 
-pub in_odd : (m e : ℕ) (cs₀ cs₁ : List Comparator) (n o k : ℕ) → n ≡ length cs₀ → o ≡ length cs₁ → m + n ≤ k → k < m + n + o →
-    option_map (in_half m 1) (nth cs₁ (k - m - n)) ≡ nth (layered m e cs₀ cs₁) k
-in_odd m e cs₀ cs₁ n o k f g h l =
-    let s = length-map cs₁ (in_half m 1) in
-    sym (after_even m e cs₀ cs₁ n k f h ∙ nth_left (map (in_half m 1) cs₁) (last m e) (k - m - n) (omega arith) ∙ nth_map (in_half m 1) cs₁ (k - m - n))
+pub in_odd : (cs : List Comparator) (m n k : ℕ) → n ≡ length cs → m + n ≤ k → k < m + 2 * n → option_map (in_half 1) (nth cs (k - m - n)) ≡ nth (doubled cs m) k
+in_odd cs m n k e h l =
+    let s = length-map cs (in_half 1) in
+    sym (after_first cs m k (omega arith) ∙ after_even cs m n (k - m) e (omega arith)
+    ∙ nth_left (map (in_half 1) cs) (map pair (range_with_len 1 (m - 1))) (k - m - n) (omega arith) ∙ nth_map (in_half 1) cs (k - m - n))
 
-pub in_last : (m e : ℕ) (cs₀ cs₁ : List Comparator) (n o k i : ℕ) → n ≡ length cs₀ → o ≡ length cs₁ → k ≡ m + n + o + i → i < m - left_out e →
-    Some (pair (i + left_out e)) ≡ nth (layered m e cs₀ cs₁) k
-in_last m e cs₀ cs₁ n o k i f g h l =
-    let z : left_out e + (k - m - n - o) ≡ i + left_out e = omega arith in
-    sym (after_odd m e cs₀ cs₁ n o k f g (omega arith) ∙ nth_pairs (left_out e) (m - left_out e) (k - m - n - o) (omega arith) ∙ ap (λ j. Some (pair j)) z)
+after_odd : (cs : List Comparator) (m n k : ℕ) → n ≡ length cs → m + 2 * n ≤ k → nth (doubled cs m) k ≡ nth (map pair (range_with_len 1 (m - 1))) (k - m - n - n)
+after_odd cs m n k e h =
+    after_first cs m k (omega arith) ∙ after_even cs m n (k - m) e (omega arith)
+    ∙ nth_right (map (in_half 1) cs) (map pair (range_with_len 1 (m - 1))) n (k - m - n) (length-map cs (in_half 1) ∙ sym e) (omega arith)
 
-pub past_last : (m e : ℕ) (cs₀ cs₁ : List Comparator) (n o k i : ℕ) → n ≡ length cs₀ → o ≡ length cs₁ → k ≡ m + n + o + i → m - left_out e ≤ i →
-    None ≡ nth (layered m e cs₀ cs₁) k
-past_last m e cs₀ cs₁ n o k i f g h l =
-    let s = length-map-range_with_len pair (left_out e) (m - left_out e) in
-    sym (after_odd m e cs₀ cs₁ n o k f g (omega arith) ∙ nth_past (last m e) (k - m - n - o) (omega arith))
+pub in_last : (cs : List Comparator) (m n k i : ℕ) → n ≡ length cs → m + 2 * n ≤ k → i ≡ k - m - 2 * n → i < m - 1 → Some (pair (i + 1)) ≡ nth (doubled cs m) k
+in_last cs m n k i e h f l =
+    let z : 1 + (k - m - n - n) ≡ i + 1 = omega arith in
+    sym (after_odd cs m n k e h ∙ nth_pairs 1 (m - 1) (k - m - n - n) (omega arith) ∙ ap (λ j. Some (pair j)) z)
+
+pub past_last : (cs : List Comparator) (m n k i : ℕ) → n ≡ length cs → m + 2 * n ≤ k → i ≡ k - m - 2 * n → m - 1 ≤ i → None ≡ nth (doubled cs m) k
+past_last cs m n k i e h f l =
+    let s = length-map-range_with_len pair 1 (m - 1) in
+    sym (after_odd cs m n k e h ∙ nth_past (map pair (range_with_len 1 (m - 1))) (k - m - n - n) (omega arith))

@@ -1,16 +1,17 @@
 -- The steps of the route, as the code comes by them.
-use Rattle.std.proofs.Common.{◌≡◌, ℕ, zero, suc, ◌+◌, ◌-◌, ◌*◌, ◌^◌, ◌<◌, ◌≤◌, List, [], length, set, sym, refl, ap, ◌∙◌, subst, subst₂, pow-suc, arith, pow_pos, pow_mono}
+use Rattle.std.proofs.Common.{◌≡◌, ℕ, zero, suc, ◌+◌, ◌-◌, ◌*◌, ◌^◌, ◌<◌, ◌≤◌, List, length, set, sym, ap, ◌∙◌, subst, ap₂, pow-suc, arith, pow_pos, pow_mono}
+use Rattle.std.proofs.lemmas.List.{length-append, length-map}
+use Rattle.std.proofs.lemmas.List.FromFn.{length-range_with_len}
 use Rattle.plan.specs.declared.Setting.{Setting}
-use Rattle.plan.specs.declared.Comparator.{Comparator}
 use Rattle.plan.specs.Plans.{at, source, Inverse, Permutation, Tabled, Brings}
 use Rattle.plan.proofs.Running.{brings_from}
 use Rattle.butterfly.specs.declared.Half.{Half}
-use Rattle.butterfly.specs.Halves.{other, sides, network, layered_settings, Halved, half_of, Sends, RoutesAt}
+use Rattle.butterfly.specs.Halves.{other, network, doubled, Halved, half_of, Sends, RoutesAt}
 use Rattle.butterfly.specs.Listing.{butterfly}
-use Rattle.butterfly.specs.Colours.{Coloured, Parted, Contracted, partner, first_half, assigned}
-use Rattle.butterfly.specs.Colouring.{parted, assigned_step, contracted_all, from_even, from_even_is, from_even_at}
-use Rattle.butterfly.specs.Halving.{halved, halved_from, widened_partner, partner_widened}
-use Rattle.butterfly.specs.Network.{combined, length_layered}
+use Rattle.butterfly.specs.Colours.{Coloured, partner, first_half, assigned}
+use Rattle.butterfly.specs.Colouring.{assigned_step}
+use Rattle.butterfly.specs.Halving.{halved}
+use Rattle.butterfly.specs.Network.{joined_settings, combined}
 use Rattle.butterfly.specs.Placing.{butterfly_is, butterfly_lawful}
 use Rattle.butterfly.proofs.Writing.{written_all}
 use Rattle.butterfly.proofs.Finding.{network_step}
@@ -25,26 +26,16 @@ pub coloured_like : (m : ℕ) (t u c : ℕ → ℕ) → ((x : ℕ) → x < 2 * m
 coloured_like m t u c e k =
     record { first = k.first; neighbours = k.neighbours; partners = λ x h. ap (λ y. c x + c y) (sym (e x h)) ∙ k.partners x h }
 
--- the two tables of halves, without a lone wire
-pub halved_even : (m : ℕ) (p q c d : ℕ → ℕ) → Inverse (2 * m) p q → Coloured m (partner p q) c → ((y : ℕ) → y < 2 * m → d y ≡ c (q y)) → Halved m 0 p q c d
-halved_even m p q c d v k e =
-    let n : 2 * m ≡ 2 * m + 0 = omega arith in
-    let j : m ≡ m + 0 = omega arith in
-    let u = subst (λ (i : ℕ). Inverse i p q) n v in
-    halved m 0 p q c d (omega arith) u
-    (subst (λ (i : ℕ). Parted i (widened_partner m 0 p q) c) j (parted m (widened_partner m 0 p q) c (coloured_like m (partner p q) (widened_partner m 0 p q) c (partner_widened m p q u) k)))
-    (λ o. absurd (omega arith)) (λ y h. e y (omega arith))
-
--- the same from the code's own tables, with or without a lone wire: the other half for each item, where the wire more
--- does not have the even one
-pub halved_assigned : (m e : ℕ) (p q : ℕ → ℕ) (o t : List ℕ) (c : List Half) → e ≤ 1 → Inverse (2 * m + e) p q →
-    ((x : ℕ) → x < 2 * (m + e) → at o x ≡ widened_partner m e p q x) → Contracted 0 (m + e) t (at o) → 2 * (m + e) ≤ length c → sides c 0 ≡ 0 →
-    let ends = from_even (e * (2 * m + 1)) (sides (assigned t 0 (m + e) c)) in Halved m e p q ends (λ y. ends (q y)) × (e ≡ 0 → ends 0 ≡ 0)
-halved_assigned m e p q o t c l v f g h z =
-    let w = e * (2 * m + 1) in
-    let s = sides (assigned t 0 (m + e) c) in
-    let k = coloured_like (m + e) (at o) (widened_partner m e p q) s f (contracted_all (m + e) t c (assigned t 0 (m + e) c) (at o) g h z refl) in
-    halved_from m e p q (from_even w s) l v (from_even_is w (m + e) (widened_partner m e p q) s (parted (m + e) (widened_partner m e p q) s k)) (from_even_at w s)
+-- the two tables of halves
+pub halved_like : (m : ℕ) (p q c d : ℕ → ℕ) → Inverse (2 * m) p q → Coloured m (partner p q) c → ((y : ℕ) → y < 2 * m → d y ≡ c (q y)) → Halved m p q c d
+halved_like m p q c d v k e =
+    let w = halved m p q c v k in
+    record {
+      inverse = v;
+      agree = λ x h. w.agree x h ∙ sym (e (p x) (v.to x h));
+      ends = w.ends;
+      starts = λ i h. ap₂ (λ a b. a + b) (e (2 * i) (omega arith)) (e (2 * i + 1) (omega arith)) ∙ w.starts i h;
+    }
 
 pub inverse_like : (m n : ℕ) (p q p' q' : ℕ → ℕ) → m ≡ n → ((i : ℕ) → i < m → p' i ≡ p i) → ((i : ℕ) → i < m → q' i ≡ q i) → Inverse m p q → Inverse n p' q'
 inverse_like m n p q p' q' z e f v =
@@ -68,30 +59,25 @@ parts k m n h l e f =
     let p = pow_pos (k - 1) in
     let b = pow_mono {i = k - 1} {j = 5} (omega arith) in
     let s = ap length (network_step k m h e) in
-    let t = length_layered m 0 (network (k - 1)) (network (k - 1)) in
-    (omega arith, omega arith, omega arith)
-
--- a route of what the code has on a half
-pub sends_like : (n w : ℕ) (cs : List Comparator) (ss : List Setting) (p p' : ℕ → ℕ) → w ≡ n → ((i : ℕ) → i < w → p' i ≡ p i) → Sends n cs ss p' → Sends w cs ss p
-sends_like n w cs ss p p' z e r = record { count = r.count; sent = λ x h. r.sent x (omega arith) ∙ e x h }
+    let t : length (doubled (network (k - 1)) m) ≡ m + 2 * n + (m - 1) = simp (length-append, length-map, length-range_with_len) (omega arith) in
+    (omega arith, omega arith, s ∙ t)
 
 -- the settings of the halves and of the two layers
-pub sends : (k m : ℕ) (p q c d : ℕ → ℕ) (es os : List Setting) → 0 < k → m ≡ 2 ^ (k - 1) → Halved m 0 p q c d → c 0 ≡ 0 →
-    Sends m (network (k - 1)) es (half_of p c 0) → Sends m (network (k - 1)) os (half_of p c 1) → Sends (2 ^ k) (network k) (layered_settings m 0 c d es os) p
-sends zero m p q c d es os h e v z se so = absurd (omega arith)
-sends (suc k) m p q c d es os h e v z se so =
+pub sends : (k m : ℕ) (p q c d pe po : ℕ → ℕ) (es os ss : List Setting) → 0 < k → m ≡ 2 ^ (k - 1) → Halved m p q c d → c 0 ≡ 0 →
+    length es ≡ length (network (k - 1)) → length os ≡ length (network (k - 1)) →
+    ((i : ℕ) → i < m → pe i ≡ half_of p c 0 i) → ((i : ℕ) → i < m → po i ≡ half_of p c 1 i) →
+    Sends (k - 1) es pe → Sends (k - 1) os po → ss ≡ joined_settings c d es os m → Sends k ss p
+sends zero m p q c d pe po es os ss h e v z le lo ee eo se so f x l = absurd (omega arith)
+sends (suc k) m p q c d pe po es os ss h e v z le lo ee eo se so f x l =
     let y : 2 ^ (suc k - 1) ≡ 2 ^ k = ap (λ i. 2 ^ i) (omega arith) in
     let t = pow-suc 2 k in
-    let n : 2 * m + 0 ≡ 2 ^ suc k = omega arith in
-    let j : m ≡ m + 0 = omega arith in
-    let cs = network (suc k - 1) in
-    subst₂ (λ (i : ℕ) (ds : List Comparator). Sends i ds (layered_settings m 0 c d es os) p) n (sym (network_step (suc k) m h e))
-    (combined m 0 p q c d cs cs es os v (λ _. z) se (subst (λ (i : ℕ). Sends i cs os (half_of p c 1)) j so))
+    ap (λ cs. source cs ss x) (network_step (suc k) m h e) ∙ ap (λ ts. source (doubled (network (suc k - 1)) m) ts x) f
+    ∙ combined (network (suc k - 1)) m p q c d es os v z le lo (λ i b. se i (omega arith) ∙ ee i b) (λ i b. so i (omega arith) ∙ eo i b) x (omega arith)
 
-pub sends_none : (k : ℕ) (p q : ℕ → ℕ) → k ≡ 0 → Inverse (2 ^ k) p q → Sends (2 ^ k) (network k) [] p
+pub sends_none : (k : ℕ) (ss : List Setting) (p q : ℕ → ℕ) → k ≡ 0 → Inverse (2 ^ k) p q → Sends k ss p
 unfolding network source
-sends_none zero p q e v = record { count = refl; sent = λ x h. let w = v.to x h in omega arith }
-sends_none (suc k) p q e v = absurd (omega arith)
+sends_none zero ss p q e v x h = let w = v.to x h in omega arith
+sends_none (suc k) ss p q e v x h = absurd (omega arith)
 
 -- the whole route
 pub routed : (k w : ℕ) (p es is : List ℕ) (before after : List Setting) → w ≡ 2 ^ k → 1 ≤ k → k ≤ 6 → Tabled w p es is → length before ≡ length (butterfly k) →
@@ -99,9 +85,9 @@ pub routed : (k w : ℕ) (p es is : List ℕ) (before after : List Setting) → 
 routed k w p es is before after e h l t c r =
     let v : Permutation (2 ^ k) p = subst (λ (n : ℕ). Permutation n p) e t.permutation in
     let b = butterfly_is k in
-    let m : length r.route ≡ length before = r.sends.count ∙ sym (c ∙ ap length b) in
+    let m : length r.route ≡ length before = r.count ∙ sym (c ∙ ap length b) in
     let a : after ≡ r.route = r.stands ∙ written_all before r.route m in (
       v,
       brings_from (2 ^ k) (butterfly k) after p (butterfly_lawful k h l).within (ap length a ∙ m ∙ c) v.long
-          (λ x g. ap (λ cs. source cs after x) b ∙ ap (λ ss. source (network k) ss x) a ∙ r.sends.sent x g ∙ t.same x (omega arith)),
+          (λ x g. ap (λ cs. source cs after x) b ∙ ap (λ ss. source (network k) ss x) a ∙ r.sent x g ∙ t.same x (omega arith)),
     )

@@ -8,7 +8,7 @@ use Rattle.plan.specs.Plans.{at}
 use Rattle.butterfly.specs.declared.Half.{Half}
 use Rattle.butterfly.specs.declared.Half.TheVariants.{Even, Odd}
 use Rattle.butterfly.specs.Halves.{side, other, sides}
-use Rattle.butterfly.specs.Colours.{Matching, Coloured, Parted, first_half, assign, assigned, Contracted}
+use Rattle.butterfly.specs.Colours.{Matching, Coloured, first_half, assign, assigned, Contracted}
 
 -- u makes partners as t does, but joins the partners of 2 * j and of 2 * j + 1
 record Joined (j : ℕ) (t u : ℕ → ℕ) : Type 0 where
@@ -130,35 +130,12 @@ extended_is j t u r k =
       right = grind (arith, nat_tests);
     }
 
-coloured : (j : ℕ) (t : ℕ → ℕ) → Matching j t → (c : ℕ → ℕ) × Coloured j t c
+pub coloured : (j : ℕ) (t : ℕ → ℕ) → Matching j t → (c : ℕ → ℕ) × Coloured j t c
 coloured zero t m = (λ x. 0, coloured_none t (λ x. 0) refl)
 coloured (suc j) t m =
     let w = joined_is j t m in
     let r = coloured j (joined j t) (matching_joined j t (joined j t) m w) in
     (extended j t r.0, coloured_added j t (joined j t) (extended j t r.0) r.0 m w r.1 (extended_is j t (joined j t) r.0 r.1))
-
--- the other colour for each, where x does not have 0 yet
-abbrev pub from_even : ℕ → (ℕ → ℕ) → ℕ → ℕ
-from_even x c y = cond (c x == 0) (c y) (1 - c y)
-
-pub parted : (j : ℕ) (t c : ℕ → ℕ) → Coloured j t c → Parted j t c
-parted j t c k = record { neighbours = k.neighbours; partners = k.partners }
-
-pub from_even_is : (x j : ℕ) (t c : ℕ → ℕ) → Parted j t c → Parted j t (from_even x c)
-from_even_is x j t c k =
-    record {
-      neighbours = λ i h. let e = k.neighbours i h in grind (arith, nat_tests);
-      partners = λ y h. let e = k.partners y h in grind (arith, nat_tests);
-    }
-
-pub from_even_at : (x : ℕ) (c : ℕ → ℕ) → from_even x c x ≡ 0
-from_even_at x c = grind (arith, nat_tests)
-
--- colours in which x, whichever it is, has 0
-pub coloured_from : (x j : ℕ) (t : ℕ → ℕ) → Matching j t → (c : ℕ → ℕ) × Parted j t c × (c x ≡ 0)
-coloured_from x j t m =
-    let r = coloured j t m in
-    (from_even x r.0, from_even_is x j t r.0 (parted j t r.0 r.1), from_even_at x r.0)
 
 -- the same on lists, as the code has them
 joined_lists : (t : List ℕ) (i a b : ℕ) → Matching (suc i) (at t) → 2 * suc i ≤ length t → a ≡ at t (2 * i) → b ≡ at t (2 * i + 1) → Joined i (at t) (at (slice_set (slice_set t a b) b a))

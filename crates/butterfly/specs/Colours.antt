@@ -27,11 +27,6 @@ pub record Coloured (j : ℕ) (t c : ℕ → ℕ) : Type 0 where
   pub neighbours : (i : ℕ) → i < j → c (2 * i) + c (2 * i + 1) ≡ 1
   pub partners : (x : ℕ) → x < 2 * j → c x + c (t x) ≡ 1
 
--- the same, whatever the first is given
-pub record Parted (j : ℕ) (t c : ℕ → ℕ) : Type 0 where
-  pub neighbours : (i : ℕ) → i < j → c (2 * i) + c (2 * i + 1) ≡ 1
-  pub partners : (x : ℕ) → x < 2 * j → c x + c (t x) ≡ 1
-
 -- the half of the first end of pair j: the other than its partner's, if that is of an earlier pair
 abbrev pub first_half : List ℕ → ℕ → List Half → Half
 first_half t j c = cond (nat_lt (at t (2 * j)) (2 * j)) (other (slice_index_or c (at t (2 * j)) Even)) Even

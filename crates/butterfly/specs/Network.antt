@@ -1,67 +1,50 @@
--- The settings of a network from those of its halves, over any number of pairs, with or without a lone wire.
+-- The butterfly by numbers brings every permutation about: the settings of a butterfly from those of its halves.
 use Rattle.std.specs.Prelude.{◌≡◌, ℕ, zero, suc, ◌+◌, ◌-◌, ◌*◌, ◌/◌, ◌^◌, ◌<◌, ◌≤◌, Bool, true, false, cond, List, [], ◌∷◌, ◌++◌, map, length, ◌==◌, ◌≢◌, refl}
 use Rattle.std.proofs.Common.{sym, ◌∙◌, ap, subst, ⊎_elim, arith, pow-suc, suc-mul, mul_left_comm, pow_pos}
 use Rattle.std.specs.List.{range_with_len}
-use Rattle.std.proofs.lemmas.Bool.{cases_eq, cases_lt, cond-true, eq-eqb}
+use Rattle.std.proofs.lemmas.Bool.{cases_eq, cases_lt}
 use Rattle.std.proofs.lemmas.Bool.Decides.{nat_tests}
 use Rattle.std.proofs.lemmas.List.{length-append, length-map}
 use Rattle.std.proofs.lemmas.List.FromFn.{length-map-range_with_len, length-range_with_len}
 use Rattle.plan.specs.declared.Setting.{Setting}
 use Rattle.plan.specs.declared.Setting.TheVariants.{Straight, Swapped}
 use Rattle.plan.specs.declared.Comparator.{Comparator}
-use Rattle.plan.specs.Plans.{on, crossed, came_from, source, Within}
+use Rattle.plan.specs.Plans.{crossed, came_from, source, Within, Inverse}
 use Rattle.plan.proofs.Running.{source_append, within_append}
-use Rattle.butterfly.specs.Halves.{pair, wire_of, in_half, left_out, layered, network, setting_for, layer, Halved, member, half_of, HalvesCombine}
-use Rattle.butterfly.specs.Halving.{place_cases, wire_cases, side_below, place_below, half_to, by_half}
-
--- different places are on different wires, and so are places of different halves
-wire_same : (m s x y : ℕ) → s ≤ 1 → wire_of m s x ≡ wire_of m s y → x ≡ y
-wire_same m s x y l e = grind (arith, nat_tests)
-
-wire_apart : (m s t x y : ℕ) → s ≤ 1 → t ≤ 1 → (s ≢ t) → wire_of m s x ≢ wire_of m t y
-wire_apart m s t x y l k n e = grind (arith, nat_tests)
+use Rattle.butterfly.specs.Halves.{pair, in_half, doubled, network, setting_for, layer, Halved, member, half_of}
+use Rattle.butterfly.specs.Colours.{partner}
+use Rattle.butterfly.specs.Colouring.{coloured}
+use Rattle.butterfly.specs.Halving.{partner_is, halved, half_to, half_inverse, by_half}
 
 -- a half's comparators act on its own wires as they do in the half, and leave the others
-crossed_in : (m s : ℕ) (c : Comparator) (x : ℕ) → s ≤ 1 → crossed (in_half m s c) (wire_of m s x) ≡ wire_of m s (crossed c x)
-crossed_in m s c x l =
-    crossed_by (wire_of m s) c x (wire_same m s x c.first l) (wire_same m s x c.second l)
-  where
-    crossed_by : (f : ℕ → ℕ) (c : Comparator) (x : ℕ) → (f x ≡ f c.first → x ≡ c.first) → (f x ≡ f c.second → x ≡ c.second) →
-        crossed (on (f c.first) (f c.second)) (f x) ≡ f (crossed c x)
-    crossed_by f c x a b = grind (arith, nat_tests)
+crossed_in : (s : ℕ) (c : Comparator) (x : ℕ) → crossed (in_half s c) (2 * x + s) ≡ 2 * crossed c x + s
+crossed_in s c x = grind (arith, nat_tests)
 
-crossed_out : (m s : ℕ) (c : Comparator) (x t : ℕ) → s ≤ 1 → t ≤ 1 → (s ≢ t) → crossed (in_half m s c) (wire_of m t x) ≡ wire_of m t x
-crossed_out m s c x t h l n =
-    crossed_none (in_half m s c) (wire_of m t x) (λ e. wire_apart m s t c.first x h l n (sym e)) (λ e. wire_apart m s t c.second x h l n (sym e))
-  where
-    crossed_none : (c : Comparator) (x : ℕ) → (x ≢ c.first) → (x ≢ c.second) → crossed c x ≡ x
-    crossed_none c x a b = grind (arith, nat_tests)
+crossed_out : (s : ℕ) (c : Comparator) (x t : ℕ) → s ≤ 1 → t ≤ 1 → (s ≢ t) → crossed (in_half s c) (2 * x + t) ≡ 2 * x + t
+crossed_out s c x t h l n = grind (arith, nat_tests)
 
-in_half_in : (m s : ℕ) (cs : List Comparator) (ss : List Setting) (x : ℕ) → s ≤ 1 → source (map (in_half m s) cs) ss (wire_of m s x) ≡ wire_of m s (source cs ss x)
+in_half_in : (s : ℕ) (cs : List Comparator) (ss : List Setting) (x : ℕ) → source (map (in_half s) cs) ss (2 * x + s) ≡ 2 * source cs ss x + s
 unfolding source
-in_half_in m s [] ss x l = refl
-in_half_in m s (c ∷ cs) [] x l = refl
-in_half_in m s (c ∷ cs) (Straight ∷ ss) x l = in_half_in m s cs ss x l
-in_half_in m s (c ∷ cs) (Swapped ∷ ss) x l = ap (crossed (in_half m s c)) (in_half_in m s cs ss x l) ∙ crossed_in m s c (source cs ss x) l
+in_half_in s [] ss x = refl
+in_half_in s (c ∷ cs) [] x = refl
+in_half_in s (c ∷ cs) (Straight ∷ ss) x = in_half_in s cs ss x
+in_half_in s (c ∷ cs) (Swapped ∷ ss) x = ap (crossed (in_half s c)) (in_half_in s cs ss x) ∙ crossed_in s c (source cs ss x)
 
-in_half_out : (m s : ℕ) (cs : List Comparator) (ss : List Setting) (x t : ℕ) → s ≤ 1 → t ≤ 1 → (s ≢ t) → source (map (in_half m s) cs) ss (wire_of m t x) ≡ wire_of m t x
+in_half_out : (s : ℕ) (cs : List Comparator) (ss : List Setting) (x t : ℕ) → s ≤ 1 → t ≤ 1 → (s ≢ t) → source (map (in_half s) cs) ss (2 * x + t) ≡ 2 * x + t
 unfolding source
-in_half_out m s [] ss x t h l n = refl
-in_half_out m s (c ∷ cs) [] x t h l n = refl
-in_half_out m s (c ∷ cs) (Straight ∷ ss) x t h l n = in_half_out m s cs ss x t h l n
-in_half_out m s (c ∷ cs) (Swapped ∷ ss) x t h l n = ap (crossed (in_half m s c)) (in_half_out m s cs ss x t h l n) ∙ crossed_out m s c x t h l n
+in_half_out s [] ss x t h l n = refl
+in_half_out s (c ∷ cs) [] x t h l n = refl
+in_half_out s (c ∷ cs) (Straight ∷ ss) x t h l n = in_half_out s cs ss x t h l n
+in_half_out s (c ∷ cs) (Swapped ∷ ss) x t h l n = ap (crossed (in_half s c)) (in_half_out s cs ss x t h l n) ∙ crossed_out s c x t h l n
 
 -- both halves
-inner : (m e : ℕ) (cs₀ cs₁ : List Comparator) (ss₀ ss₁ : List Setting) (f : ℕ → ℕ → ℕ) → ((i : ℕ) → i < m → source cs₀ ss₀ i ≡ f 0 i) →
-    ((i : ℕ) → i < m + e → source cs₁ ss₁ i ≡ f 1 i) → (s x : ℕ) → s ≤ 1 → x < m + s * e →
-    source (map (in_half m 0) cs₀) ss₀ (source (map (in_half m 1) cs₁) ss₁ (wire_of m s x)) ≡ wire_of m s (f s x)
-inner m e cs₀ cs₁ ss₀ ss₁ f h₀ h₁ zero x l h =
-    ap (source (map (in_half m 0) cs₀) ss₀) (in_half_out m 1 cs₁ ss₁ x 0 (omega arith) (omega arith) (λ z. omega arith))
-    ∙ in_half_in m 0 cs₀ ss₀ x (omega arith) ∙ ap (wire_of m 0) (h₀ x (omega arith))
-inner m e cs₀ cs₁ ss₀ ss₁ f h₀ h₁ (suc zero) x l h =
-    ap (source (map (in_half m 0) cs₀) ss₀) (in_half_in m 1 cs₁ ss₁ x (omega arith))
-    ∙ in_half_out m 0 cs₀ ss₀ (source cs₁ ss₁ x) 1 (omega arith) (omega arith) (λ z. omega arith) ∙ ap (wire_of m 1) (h₁ x (omega arith))
-inner m e cs₀ cs₁ ss₀ ss₁ f h₀ h₁ (suc (suc s)) x l h = absurd (omega arith)
+inner : (cs : List Comparator) (es os : List Setting) (s x e : ℕ) → s ≤ 1 → source cs (cond (s == 0) es os) x ≡ e →
+    source (map (in_half 0) cs) es (source (map (in_half 1) cs) os (2 * x + s)) ≡ 2 * e + s
+inner cs es os zero x e l f =
+    ap (source (map (in_half 0) cs) es) (in_half_out 1 cs os x 0 (omega arith) (omega arith) (λ z. omega arith)) ∙ in_half_in 0 cs es x ∙ ap (λ y. 2 * y + 0) f
+inner cs es os (suc zero) x e l f =
+    ap (source (map (in_half 0) cs) es) (in_half_in 1 cs os x) ∙ in_half_out 0 cs es (source cs os x) 1 (omega arith) (omega arith) (λ z. omega arith) ∙ ap (λ y. 2 * y + 1) f
+inner cs es os (suc (suc s)) x e l f = absurd (omega arith)
 
 -- a layer of pairs
 through : (o s y : ℕ) → came_from (pair o) (setting_for s) y ≡ cond (s == 1) (crossed (pair o) y) y
@@ -90,117 +73,79 @@ layer_at c o (suc m) x n l h =
     rw e (through o (c (2 * o)) (2 * (x / 2) + c x) ∙ layer_past (c (2 * o) == 1) o (2 * (x / 2) + c x) (omega arith)))
     (cases_lt x (2 * (o + 1)))
 
-layer_beyond : (c : ℕ → ℕ) (o m x : ℕ) → 2 * (o + m) ≤ x → source (map pair (range_with_len o m)) (layer c o m) x ≡ x
-unfolding source
-layer_beyond c o zero x h = refl
-layer_beyond c o (suc m) x h = let e = layer_beyond c (o + 1) m x (omega arith) in rw e (through o (c (2 * o)) x ∙ layer_past (c (2 * o) == 1) o x (omega arith))
-
--- a wire by its half and its place
-wire_paired : (m s x : ℕ) → x < m → wire_of m s x ≡ 2 * x + s
-wire_paired m s x h = grind (arith, nat_tests)
-
-wire_lone : (m : ℕ) → wire_of m 1 m ≡ 2 * m
-wire_lone m = grind (arith, nat_tests)
-
--- the last layer takes each item from its half; it has no comparator on the pairs left out, nor on the lone wire
-last_paired : (c : ℕ → ℕ) (m e x : ℕ) → e ≤ 1 → (e ≡ 0 → c 0 ≡ 0) → ((i : ℕ) → i < m → c (2 * i) + c (2 * i + 1) ≡ 1) → x < 2 * m →
-    source (map pair (range_with_len (left_out e) (m - left_out e))) (layer c (left_out e) (m - left_out e)) x ≡ 2 * (x / 2) + c x
-last_paired c m e x l z n h =
+-- the last layer has no comparator on the first pair
+last_layer : (c : ℕ → ℕ) (m x : ℕ) → c 0 ≡ 0 → ((i : ℕ) → i < m → c (2 * i) + c (2 * i + 1) ≡ 1) → x < 2 * m →
+    source (map pair (range_with_len 1 (m - 1))) (layer c 1 (m - 1)) x ≡ 2 * (x / 2) + c x
+last_layer c m x z n h =
     ⊎_elim
-    (λ b. layer_below c (left_out e) (m - left_out e) x b ∙ (let w = cases_eq x 0 in let f = n 0 (omega arith) in let y = z (omega arith) in grind arith))
-    (λ b. layer_at c (left_out e) (m - left_out e) x (λ i k. n i (omega arith)) b (omega arith))
-    (cases_lt x (2 * left_out e))
+    (λ b. layer_below c 1 (m - 1) x b ∙ (let w = cases_eq x 0 in let e = n 0 (omega arith) in grind arith))
+    (λ b. layer_at c 1 (m - 1) x (λ i k. n i (omega arith)) b (omega arith))
+    (cases_lt x 2)
 
-last_layer : (m e : ℕ) (p q c d : ℕ → ℕ) → Halved m e p q c d → (e ≡ 0 → c 0 ≡ 0) → (x : ℕ) → x < 2 * m + e →
-    source (map pair (range_with_len (left_out e) (m - left_out e))) (layer c (left_out e) (m - left_out e)) x ≡ wire_of m (c x) (x / 2)
-last_layer m e p q c d v z x h =
-    ⊎_elim
-    (λ b. last_paired c m e x v.lone z v.ends (omega arith) ∙ sym (wire_paired m (c x) (x / 2) b))
-    (λ b.
-    let b0 = b.0 in let b1 = b.1 in
-    let a : c x ≡ 1 = ap c b.0 ∙ v.lone_end b.1 in
-    let i : x / 2 ≡ m = omega arith in
-    layer_beyond c (left_out e) (m - left_out e) x (omega arith) ∙ b.0 ∙ sym (ap (λ y. wire_of m y (x / 2)) a ∙ ap (wire_of m 1) i ∙ wire_lone m))
-    (wire_cases m e x v.lone h)
+bit : (c : ℕ → ℕ) (x : ℕ) → c (2 * (x / 2)) + c (2 * (x / 2) + 1) ≡ 1 → c x ≤ 1
+bit c x e = let w = cases_eq x (2 * (x / 2)) in grind arith
 
--- the first layer brings each item into its half
+-- what a layer does on the wire of half s in pair i
 member_layer : (d : ℕ → ℕ) (s i : ℕ) → s ≤ 1 → d (2 * i) + d (2 * i + 1) ≡ 1 → 2 * ((2 * i + s) / 2) + d (2 * i + s) ≡ member d s i
 member_layer d s i l e = let w = cases_eq s 0 in let z = cases_eq (d (2 * i)) s in grind (arith, nat_tests)
 
-first_layer : (m e : ℕ) (p q c d : ℕ → ℕ) → Halved m e p q c d → (s i : ℕ) → s ≤ 1 → i < m + s * e →
-    source (map pair (range_with_len 0 m)) (layer d 0 m) (wire_of m s i) ≡ member d s i
-first_layer m e p q c d v s i l h =
-    ⊎_elim
-    (λ b. ap (source (map pair (range_with_len 0 m)) (layer d 0 m)) (wire_paired m s i b)
-    ∙ layer_at d 0 m (2 * i + s) (λ j k. v.starts j (omega arith)) (omega arith) (omega arith) ∙ member_layer d s i l (v.starts i b))
-    (λ b.
-    let b0 = b.0 in
-    let a : wire_of m s i ≡ 2 * m = ap (λ y. wire_of m y i) b.2 ∙ ap (wire_of m 1) b.0 ∙ wire_lone m in
-    let f : d (2 * i) ≡ s = ap (λ y. d (2 * y)) b.0 ∙ v.lone_start b.1 ∙ sym b.2 in
-    ap (source (map pair (range_with_len 0 m)) (layer d 0 m)) a ∙ layer_beyond d 0 m (2 * m) (omega arith) ∙ ap (λ y. 2 * y) (sym b.0) ∙ sym (cond-true _ _ _ (eq-eqb _ _ f)))
-    (place_cases m e s i v.lone l h)
+-- the settings of a butterfly
+abbrev pub joined_settings : (ℕ → ℕ) → (ℕ → ℕ) → List Setting → List Setting → ℕ → List Setting
+joined_settings c d es os m = layer d 0 m ++ (es ++ (os ++ layer c 1 (m - 1)))
 
-pub combined : HalvesCombine
-combined m e p q c d cs₀ cs₁ ss₀ ss₁ v z h₀ h₁ =
+pub combined : (cs : List Comparator) (m : ℕ) (p q c d : ℕ → ℕ) (es os : List Setting) → Halved m p q c d → c 0 ≡ 0 →
+    length es ≡ length cs → length os ≡ length cs →
+    ((i : ℕ) → i < m → source cs es i ≡ half_of p c 0 i) →
+    ((i : ℕ) → i < m → source cs os i ≡ half_of p c 1 i) →
+    (x : ℕ) → x < 2 * m → source (doubled cs m) (joined_settings c d es os m) x ≡ p x
+combined cs m p q c d es os v z le lo he ho x h =
     let F : List Setting = layer d 0 m in
-    let L : List Setting = layer c (left_out e) (m - left_out e) in
-    let last : List Comparator = map pair (range_with_len (left_out e) (m - left_out e)) in
-    record {
-      count = let l₀ = h₀.count in let l₁ = h₁.count in simp (length-append, length-map) (omega arith);
-      sent = λ x h.
-          let b = side_below m e p q c d v x h in
-          let w = place_below m e p q c d v (c x) x h refl in
-          source_append (map pair (range_with_len 0 m)) (map (in_half m 0) cs₀ ++ (map (in_half m 1) cs₁ ++ last)) F (ss₀ ++ (ss₁ ++ L)) x
-          (length-map-range_with_len (λ i. setting_for (d (2 * i))) 0 m ∙ sym (length-map-range_with_len pair 0 m))
-          ∙ ap (source (map pair (range_with_len 0 m)) F)
-          (source_append (map (in_half m 0) cs₀) (map (in_half m 1) cs₁ ++ last) ss₀ (ss₁ ++ L) x (h₀.count ∙ sym (length-map cs₀ (in_half m 0)))
-          ∙ ap (source (map (in_half m 0) cs₀) ss₀)
-          (source_append (map (in_half m 1) cs₁) last ss₁ L x (h₁.count ∙ sym (length-map cs₁ (in_half m 1)))
-          ∙ ap (source (map (in_half m 1) cs₁) ss₁) (last_layer m e p q c d v z x h))
-          ∙ inner m e cs₀ cs₁ ss₀ ss₁ (half_of p c) h₀.sent h₁.sent (c x) (x / 2) b w)
-          ∙ first_layer m e p q c d v (c x) (half_of p c (c x) (x / 2)) b (half_to m e p q c d v (c x) b (x / 2) w) ∙ sym (by_half m e p q c d v (c x) x h refl);
-    }
-
-within_pairs : (n a m : ℕ) → 2 * (a + m) ≤ n → Within n (map pair (range_with_len a m))
-within_pairs n a zero h = tt
-within_pairs n a (suc m) h = (omega arith, omega arith, within_pairs n (a + 1) m (omega arith))
-
-wires_within : (m e s x y : ℕ) → e ≤ 1 → s ≤ 1 → x < y → y < m + s * e → (wire_of m s x < wire_of m s y) × (wire_of m s y < 2 * m + e)
-wires_within m e s x y l k h b =
+    let L : List Setting = layer c 1 (m - 1) in
+    let b = bit c x (v.ends (x / 2) (omega arith)) in
+    let e = half_of p c (c x) (x / 2) in
+    let w = half_to m p q c d v (c x) (x / 2) (omega arith) in
+    let f : source cs (cond (c x == 0) es os) (x / 2) ≡ e =
     ⊎_elim
-    (λ f. let u = wire_paired m s x (omega arith) in let w = wire_paired m s y f in (omega arith, omega arith))
-    (λ f.
-    let f0 = f.0 in let f1 = f.1 in
-    let u = wire_paired m s x (omega arith) in
-    let w : wire_of m s y ≡ 2 * m = ap (λ i. wire_of m i y) f.2 ∙ ap (wire_of m 1) f.0 ∙ wire_lone m in
-    (omega arith, omega arith))
-    (place_cases m e s y l k b)
+    (λ u. ap (λ s. source cs (cond (s == 0) es os) (x / 2)) u ∙ he (x / 2) (omega arith) ∙ ap (λ s. half_of p c s (x / 2)) (sym u))
+    (λ n. let u : c x ≡ 1 = omega arith in ap (λ s. source cs (cond (s == 0) es os) (x / 2)) u ∙ ho (x / 2) (omega arith) ∙ ap (λ s. half_of p c s (x / 2)) (sym u))
+    (cases_eq (c x) 0) in
+    source_append (map pair (range_with_len 0 m)) (map (in_half 0) cs ++ (map (in_half 1) cs ++ map pair (range_with_len 1 (m - 1)))) F (es ++ (os ++ L)) x
+    (length-map-range_with_len (λ i. setting_for (d (2 * i))) 0 m ∙ sym (length-map-range_with_len pair 0 m))
+    ∙ ap (source (map pair (range_with_len 0 m)) F)
+    (source_append (map (in_half 0) cs) (map (in_half 1) cs ++ map pair (range_with_len 1 (m - 1))) es (os ++ L) x (le ∙ sym (length-map cs (in_half 0)))
+    ∙ ap (source (map (in_half 0) cs) es)
+    (source_append (map (in_half 1) cs) (map pair (range_with_len 1 (m - 1))) os L x (lo ∙ sym (length-map cs (in_half 1)))
+    ∙ ap (source (map (in_half 1) cs) os) (last_layer c m x z v.ends h))
+    ∙ inner cs es os (c x) (x / 2) e b f)
+    ∙ layer_at d 0 m (2 * e + c x) (λ i k. v.starts i (omega arith)) (omega arith) (omega arith)
+    ∙ member_layer d (c x) e b (v.starts e w) ∙ sym (by_half m p q c d v (c x) x h refl)
 
-within_half : (m e s : ℕ) (cs : List Comparator) → e ≤ 1 → s ≤ 1 → Within (m + s * e) cs → Within (2 * m + e) (map (in_half m s) cs)
-within_half m e s [] l k w = tt
-within_half m e s (c ∷ cs) l k w =
-    let b = wires_within m e s c.first c.second l k w.0 w.1 in
-    (b.0, b.1, within_half m e s cs l k w.2)
-
-within_last : (m e : ℕ) → Within (2 * m + e) (map pair (range_with_len (left_out e) (m - left_out e)))
-within_last zero e = let z : 0 - left_out e ≡ 0 = omega arith in rw z tt
-within_last (suc m) e = within_pairs (2 * suc m + e) (left_out e) (suc m - left_out e) (omega arith)
-
-pub within_layered : (m e : ℕ) (cs₀ cs₁ : List Comparator) → e ≤ 1 → Within m cs₀ → Within (m + e) cs₁ → Within (2 * m + e) (layered m e cs₀ cs₁)
-within_layered m e cs₀ cs₁ l w₀ w₁ =
-    let n = 2 * m + e in
-    let last : List Comparator = map pair (range_with_len (left_out e) (m - left_out e)) in
-    let a : m ≡ m + 0 * e = omega arith in
-    let b : m + e ≡ m + 1 * e = omega arith in
-    within_append n (map pair (range_with_len 0 m)) (map (in_half m 0) cs₀ ++ (map (in_half m 1) cs₁ ++ last)) (within_pairs n 0 m (omega arith))
-    (within_append n (map (in_half m 0) cs₀) (map (in_half m 1) cs₁ ++ last) (within_half m e 0 cs₀ l (omega arith) (subst (λ (i : ℕ). Within i cs₀) a w₀))
-    (within_append n (map (in_half m 1) cs₁) last (within_half m e 1 cs₁ l (omega arith) (subst (λ (i : ℕ). Within i cs₁) b w₁)) (within_last m e)))
-
-pub length_layered : (m e : ℕ) (cs₀ cs₁ : List Comparator) → length (layered m e cs₀ cs₁) ≡ m + length cs₀ + length cs₁ + (m - left_out e)
-length_layered m e cs₀ cs₁ = simp (length-append, length-map, length-range_with_len) (omega arith)
+pub length_joined : (cs : List Comparator) (c d : ℕ → ℕ) (es os : List Setting) (m : ℕ) → length es ≡ length cs → length os ≡ length cs →
+    length (joined_settings c d es os m) ≡ length (doubled cs m)
+length_joined cs c d es os m le lo = simp (length-append, length-map) (omega arith)
 
 two : (k : ℕ) → 2 ^ suc k ≡ 2 * 2 ^ k
 two k = omega (arith, pow-suc 2 k)
+
+-- settings for every permutation
+pub network_route : (k : ℕ) (p q : ℕ → ℕ) → Inverse (2 ^ k) p q →
+    (ss : List Setting) × (length ss ≡ length (network k)) × ((x : ℕ) → x < 2 ^ k → source (network k) ss x ≡ p x)
+unfolding network source
+network_route zero p q v = ([], refl, λ x h. let w = v.to x h in omega arith)
+network_route (suc k) p q v =
+    let m = 2 ^ k in
+    let u : Inverse (2 * m) p q = subst (λ (n : ℕ). Inverse n p q) (two k) v in
+    let r = coloured m (partner p q) (partner_is m p q u) in
+    let c = r.0 in
+    let d : ℕ → ℕ = λ y. c (q y) in
+    let hv = halved m p q c u r.1 in
+    let e = network_route k (half_of p c 0) (half_of q d 0) (half_inverse m p q c d hv 0 (omega arith)) in
+    let o = network_route k (half_of p c 1) (half_of q d 1) (half_inverse m p q c d hv 1 (omega arith)) in
+    let t = two k in (
+      joined_settings c d e.0 o.0 m,
+      length_joined (network k) c d e.0 o.0 m e.1 o.1,
+      λ x h. combined (network k) m p q c d e.0 o.0 hv r.1.first e.1 o.1 e.2 o.2 x (omega arith),
+    )
 
 -- n * log n - n + 1 comparators
 pub network_count : (k : ℕ) → length (network k) + 2 ^ k ≡ k * 2 ^ k + 1
@@ -210,5 +155,23 @@ network_count (suc k) =
     let t = two k in
     let ih = network_count k in
     let pos = pow_pos k in
-    let l = length_layered (2 ^ k) 0 (network k) (network k) in
-    simp (l, t, suc-mul) (rw (mul_left_comm k 2 (2 ^ k)) (omega arith))
+    simp (length-append, length-map, length-range_with_len, t, suc-mul) (rw (mul_left_comm k 2 (2 ^ k)) (omega arith))
+
+within_pairs : (n a m : ℕ) → 2 * (a + m) ≤ n → Within n (map pair (range_with_len a m))
+within_pairs n a zero h = tt
+within_pairs n a (suc m) h = (omega arith, omega arith, within_pairs n (a + 1) m (omega arith))
+
+within_half : (n s : ℕ) (cs : List Comparator) → s ≤ 1 → Within n cs → Within (2 * n) (map (in_half s) cs)
+within_half n s [] h w = tt
+within_half n s (c ∷ cs) h w = let w0 = w.0 in let w1 = w.1 in (omega arith, omega arith, within_half n s cs h w.2)
+
+within_doubled : (m : ℕ) (cs : List Comparator) → 1 ≤ m → Within m cs → Within (2 * m) (doubled cs m)
+within_doubled m cs h w =
+    within_append (2 * m) (map pair (range_with_len 0 m)) (map (in_half 0) cs ++ (map (in_half 1) cs ++ map pair (range_with_len 1 (m - 1)))) (within_pairs (2 * m) 0 m (omega arith))
+    (within_append (2 * m) (map (in_half 0) cs) (map (in_half 1) cs ++ map pair (range_with_len 1 (m - 1))) (within_half m 0 cs (omega arith) w)
+    (within_append (2 * m) (map (in_half 1) cs) (map pair (range_with_len 1 (m - 1))) (within_half m 1 cs (omega arith) w) (within_pairs (2 * m) 1 (m - 1) (omega arith))))
+
+pub network_within : (k : ℕ) → Within (2 ^ k) (network k)
+unfolding network
+network_within zero = tt
+network_within (suc k) = let pos = pow_pos k in subst (λ (n : ℕ). Within n (doubled (network k) (2 ^ k))) (sym (two k)) (within_doubled (2 ^ k) (network k) (omega arith) (network_within k))

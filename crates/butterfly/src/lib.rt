@@ -1,9 +1,9 @@
 #![tactic(auto)]
 
-ghost use Rattle.std.specs.Prelude.{◌≡◌, ℕ, ◌+◌, ◌-◌, ◌*◌, ◌/◌, ◌^◌, ◌<◌, ◌≤◌, List, map, length, replicate, MatchResult};
+ghost use Rattle.std.specs.Prelude.{◌≡◌, ℕ, ◌+◌, ◌-◌, ◌*◌, ◌/◌, ◌^◌, ◌<◌, ◌≤◌, List, map, length, replicate, IfSome, MatchResult};
 ghost use Rattle.std.specs.Option.{option_map};
 ghost use Rattle.plan.specs.Plans.{nth, at, source, Inverse, Within, Routed};
-ghost use Rattle.butterfly.specs.Halves.{side, other, sides, pair, wire_of, in_half, Below, network, HalvesLaidOut, setting_for, layer, member, half_of, HalvesExist, HalvesCombine, RoutesAt, written};
+ghost use Rattle.butterfly.specs.Halves.{side, other, sides, pair, in_half, network, setting_for, layer, member, half_of, RoutesAt, written};
 ghost use Rattle.butterfly.specs.Listing.{butterfly, Unfit};
 ghost use Rattle.butterfly.specs.declared.Half.TheVariants.{Even};
 ghost use Rattle.butterfly.specs.Colours.{Matching, Coloured, Contracted, partner, first_half, assigned};
@@ -80,10 +80,10 @@ impl Half {
         }
     }
 
-    // The wire of this half in a pair, by the pair's place.
+    // The wire on which a place of this half lies.
     fn wire(self, place: usize) -> usize
         requires { place < 64 }
-        ensures { (pairs : ℕ) → place < pairs → result ≡ wire_of pairs (side self) place }
+        ensures { result ≡ 2 * place + side self }
     {
         match self {
             Half::Even => 2 * place,
@@ -116,7 +116,6 @@ fn size(levels: usize) -> usize
     requires { levels ≤ 6 }
     ensures value { result ≡ length (network levels) }
     ensures listed { result ≡ length (butterfly levels) }
-    ensures laid { HalvesLaidOut }
     ensures bound { result ≤ 384 }
 {
     let wires = width(levels);
@@ -142,8 +141,8 @@ fn last_pair(i: usize) -> Comparator
 
 // A comparator of a half on the wires of the whole.
 fn on_wires(inner: Option<Comparator>, half: Half) -> Option<Comparator>
-    requires { Below 64 inner }
-    ensures { (pairs : ℕ) → Below pairs inner → result ≡ option_map (in_half pairs (side half)) inner }
+    requires { IfSome inner (λ c. (c.first < 64) × (c.second < 64)) }
+    ensures { result ≡ option_map (in_half (side half)) inner }
 {
     match inner {
         Some(c) => Some(Comparator {
@@ -246,8 +245,7 @@ fn assign(table: &[u8; 64], pairs: usize) -> [Half; 64]
 fn halves_by_end(pairs: usize, entries: &[u8; 64], inverse: &[u8; 64]) -> [Half; 64]
     requires narrow { pairs ≤ 32 }
     requires inverse { Inverse (2 * pairs) (at entries.now) (at inverse.now) }
-    ensures coloured { Coloured pairs (partner (at entries.now) (at inverse.now)) (sides result) }
-    ensures exist { HalvesExist }
+    ensures { Coloured pairs (partner (at entries.now) (at inverse.now)) (sides result) }
 {
     let mut table = partners(pairs, entries, inverse);
     contract(&mut table, pairs);
@@ -316,8 +314,7 @@ fn route_over(
     requires few { levels ≤ 6 }
     requires inverse { Inverse (2 ^ levels) (at entries.now) (at inverse.now) }
     requires places { start + length (network levels) ≤ length settings.old }
-    ensures routed { RoutesAt levels start (at entries.now) settings.old settings.new }
-    ensures combine { HalvesCombine }
+    ensures { RoutesAt levels start (at entries.now) settings.old settings.new }
 {
     if levels == 0 {
         return;

@@ -1,6 +1,6 @@
 use Rattle.std.proofs.Common.{◌*◌, length, ap, arith}
 use Rattle.butterfly.specs.Network.{network_count}
-use Rattle.butterfly.specs.Placing.{sizes, laid_out, butterfly_is}
+use Rattle.butterfly.specs.Placing.{sizes, butterfly_is}
 use Rattle.butterfly.proofs.size.Goals as goal
 
 pub overflow_sub-result : goal.overflow_sub-result
@@ -15,4 +15,4 @@ returns c =
     let s = sizes c.args.levels c.requires in
     let e = ap (λ w. c.args.levels * w) c.width-wires.ensures.value in
     let b = ap length (butterfly_is c.args.levels) in
-    record { value = omega arith; listed = omega arith; laid = laid_out; bound = omega arith }
+    record { value = omega arith; listed = omega arith; bound = omega arith }

@@ -17,4 +17,4 @@ route_over-requires c =
 pub returns : goal.returns
 returns c =
     routed c.args.self.now.levels c.width-wires.result c.args.permutation.now _ _ c.args.settings.now _ c.width-wires.ensures.value c.args.self.now.fits.0 c.args.self.now.fits.1
-    c.in_ok-shuffle.ensures (c.if-settings-count.false ∙ c.count.ensures) c.route_over.ensures.routed
+    c.in_ok-shuffle.ensures (c.if-settings-count.false ∙ c.count.ensures) c.route_over.ensures
