@@ -1,6 +1,6 @@
 #!/usr/bin/env python3
 """Brings the repository's own names of definitions, fields and lemmas to one spelling: words in snake case, types and
-facts in upper camel case. Run once, at the top, after the toolchain's own script (docs/PORT.md).
+facts in upper camel case. Run once, at the top of the repository, after the script of the toolchain that turns an older repository.
 
 A name is the repository's own if an .antt file declares it. Names that Rattle makes (goals, steps of a proof), names that
 the library has too, strings and comments stay as they are.
@@ -13,8 +13,8 @@ NAME = re.compile(r"[\w'◌₀-₉-]+")
 DECLARED = re.compile(
     r"^[ ]*(?:(?:abbrev|unfoldable|pub|record|data|ruleset)\s+)*([\w'◌₀-₉-]+)\s*(?:[({][^\n]*)?\s*:\s(.*)$", re.M)
 IMPORT = re.compile(r"^(?:ghost )?use ([\w.'«»+-]+)\.\{([^}]*)\}", re.M)
-# facts that were spelled as words
-FACTS = {"answered": "Answered", "goes_on": "GoesOn"}
+# facts that were spelled as words, and the crates whose files mean the fact by the word
+FACTS = {"answered": ("Answered", ("equivalence", "board")), "goes_on": ("GoesOn", ("roundfile",))}
 
 
 def files():
@@ -32,11 +32,11 @@ def is_own_crate(path):
 
 def respelled(name):
     if name in FACTS:
-        return FACTS[name]
+        return FACTS[name][0]
     if "◌" in name or not re.search(r"[-A-Z]", name):
         return name
-    if name[0].isupper():
-        return "".join(part[:1].upper() + part[1:] for part in name.split("-"))
+    if name[0].isupper() and re.search(r"[a-z]", name):
+        return "".join(part[:1].upper() + part[1:] for part in re.split("[-_]", name))
     name = name.replace("getD", "get_or")
     name = re.sub(r"([a-z])([A-Z])", lambda m: m.group(1) + "_" + m.group(2).lower(), name)
     return name.replace("-", "_")
@@ -72,11 +72,13 @@ def main():
             cut = re.search(r"(^|\s)--(\s|$)" if antt else r"//", line)
             head, tail = (line[:cut.start()], line[cut.start():]) if cut else (line, "")
 
-            def put(m, head=head):
+            def put(m, head=head, path=path):
                 name = m.group(0)
                 if name not in turned:
                     return name
                 if head.count('"', 0, m.start()) % 2:
+                    return name
+                if name in FACTS and path.split("/")[1] not in FACTS[name][1]:
                     return name
                 before = head[:m.start()]
                 if steps and before.endswith(".") and name not in fields:

@@ -99,7 +99,7 @@ def arguments():
     parser = argparse.ArgumentParser(description="Compares a program that checks round files with the reference.")
     parser.add_argument("--files", type=int, default=20000)
     parser.add_argument("--seed", type=int, default=1)
-    parser.add_argument("--program", default="target/bin/checkround")
+    parser.add_argument("--program", default="crates/checkround/out/checkround")
     given = parser.parse_args()
     if not os.access(given.program, os.X_OK):
         parser.error(f"no program at {given.program}")

@@ -6,7 +6,7 @@
 status=0
 for edit in compare/misuse/*.edit; do
     copy=$(mktemp -d)
-    cp -r crates crates.txt "$copy"
+    tar c --exclude=out crates crates.txt | tar x -C "$copy"
     EDIT=$edit COPY=$copy python3 - <<'PY'
 import os
 fields = dict(line.rstrip("\n").split(": ", 1) for line in open(os.environ["EDIT"]))
@@ -15,7 +15,7 @@ text = open(path).read()
 assert text.count(fields["old"]) == 1, "the text to edit does not stand once in " + fields["file"]
 open(path, "w").write(text.replace(fields["old"], fields["new"]))
 PY
-    said=$(cd "$copy" && rt dev prover 2>&1 | grep -o 'error\[[a-z0-9-]*\]: [^:]*' | head -1)
+    said=$(cd "$copy/crates/prover" && rt check 2>&1 | grep -o 'error\[[a-z0-9-]*\]: [^:]*' | head -1)
     if [ -n "$said" ]; then
         echo "$(basename "$edit" .edit): refused by the compiler: $said"
     else

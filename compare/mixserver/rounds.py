@@ -205,8 +205,8 @@ def main():
     parser = argparse.ArgumentParser()
     parser.add_argument("--rounds", type=int, default=200)
     parser.add_argument("--seed", type=int, default=1)
-    parser.add_argument("--mixserver", default=os.path.join(ROOT, "target", "bin", "mixserver"))
-    parser.add_argument("--checkround", default=os.path.join(ROOT, "target", "bin", "checkround"))
+    parser.add_argument("--mixserver", default=os.path.join(ROOT, "crates", "mixserver", "out", "mixserver"))
+    parser.add_argument("--checkround", default=os.path.join(ROOT, "crates", "checkround", "out", "checkround"))
     programs = parser.parse_args()
     fixed = [(2, 2, 8, 4, set(), "stands"), (1, 1, 8, 3, set(), "stands"), (2, 2, 8, 4, {1, 3}, "void")]
     counts = collections.Counter()

@@ -1,6 +1,6 @@
 -- The butterfly: the places in pairs, the whole plan on the even places, the whole plan on the odd places, and the
 -- places in pairs again, without the first pair. It is stated over a list of places v0 v1 v2 and on.
--- `counting a n` is the list of the n numbers from a on.
+-- `range_with_len a n` is the list of the n numbers from a on.
 use Rattle.std.specs.Prelude.{◌≡◌, ℕ, zero, suc, ◌^◌, ◌≤◌, List, [], ◌∷◌, ◌++◌, drop, ◌≢◌}
 use Rattle.std.specs.List.{range_with_len}
 use Rattle.refusal.specs.declared.Refusal.{Refusal}

@@ -73,8 +73,8 @@ module _ {P : Type 0} {G : Operations P} (laws : GroupLaws G) {E : Exponents} (e
       → Sound k.key (multiplied G k.inputs.first k.inputs.second) (multiplied G k.outputs.first k.outputs.second) (equivalence_sample E w)
   equivalence_sound k w e =
       let j = judged_well _ _ _ _ e in
-      let f = both_parts (ltb w.z E.order) (transcript_fits E w.Answered) j.0 in
-      transcript_sound k.key _ _ w.z w.Answered (ltb-true _ _ f.0) f.1 j.1 j.2
+      let f = both_parts (ltb w.z E.order) (transcript_fits E w.answered) j.0 in
+      transcript_sound k.key _ _ w.z w.answered (ltb-true _ _ f.0) f.1 j.1 j.2
 
   -- where the parts on the first branch are equal, those on the second are not
   other_part : (d : Disjunction P ℕ) → splits d ≡ true → (d.challenges.first ≡ d.challenges.second → ⊥)
@@ -86,7 +86,7 @@ module _ {P : Type 0} {G : Operations P} (laws : GroupLaws G) {E : Exponents} (e
   disjunctive_sound : (k : Comparison P) (w : DisjunctiveWitness P) → judge_disjunctive G E k w ≡ None
       → Sound k.key k.inputs.first (output_of k (drawn E w).setting) (drawn E w).sample
   disjunctive_sound k w e =
-      let d = w.Answered in
+      let d = w.answered in
       let j = judged_well _ _ _ _ e in
       let f = both_parts (ltb w.z E.order) _ j.0 in
       let g = both_parts (both (challenge_fits E d.challenges.first) (challenge_fits E d.challenges.second)) (both (transcript_fits E d.straight) (transcript_fits E d.swapped)) f.1 in
@@ -95,14 +95,14 @@ module _ {P : Type 0} {G : Operations P} (laws : GroupLaws G) {E : Exponents} (e
       let b = both_parts (transcript_accepted G k.key k.inputs.first k.outputs.first w.z d.straight) _ a.1 in
       go (eqb d.straight.first.challenge d.straight.second.challenge) refl (ltb-true _ _ f.0) t a.0 j.1 b
     where
-      go : (c : Bool) → eqb w.Answered.straight.first.challenge w.Answered.straight.second.challenge ≡ c → w.z < E.order
-          → (transcript_fits E w.Answered.straight ≡ true) × (transcript_fits E w.Answered.swapped ≡ true) → splits w.Answered ≡ true
-          → (w.Answered.challenges.first ≡ w.Answered.challenges.second → ⊥)
-          → (transcript_accepted G k.key k.inputs.first k.outputs.first w.z w.Answered.straight ≡ true)
-          × (transcript_accepted G k.key k.inputs.first k.outputs.second w.z w.Answered.swapped ≡ true)
+      go : (c : Bool) → eqb w.answered.straight.first.challenge w.answered.straight.second.challenge ≡ c → w.z < E.order
+          → (transcript_fits E w.answered.straight ≡ true) × (transcript_fits E w.answered.swapped ≡ true) → splits w.answered ≡ true
+          → (w.answered.challenges.first ≡ w.answered.challenges.second → ⊥)
+          → (transcript_accepted G k.key k.inputs.first k.outputs.first w.z w.answered.straight ≡ true)
+          × (transcript_accepted G k.key k.inputs.first k.outputs.second w.z w.answered.swapped ≡ true)
           → Sound k.key k.inputs.first (output_of k (elim c [ true ↦ Swapped | false ↦ Straight ])) (disjunctive_sample E w (elim c [ true ↦ Swapped | false ↦ Straight ]))
-      go true p hz t s n b = transcript_sound k.key _ _ w.z w.Answered.swapped hz t.1 (other_part w.Answered s n (eqb-true _ _ p)) b.1
-      go false p hz t s n b = transcript_sound k.key _ _ w.z w.Answered.straight hz t.0 (eqb-false _ _ p) b.0
+      go true p hz t s n b = transcript_sound k.key _ _ w.z w.answered.swapped hz t.1 (other_part w.answered s n (eqb-true _ _ p)) b.1
+      go false p hz t s n b = transcript_sound k.key _ _ w.z w.answered.straight hz t.0 (eqb-false _ _ p) b.0
 
   three_sound : (y : P) (old new : Ciphertext P) (l : List (Sample ℕ)) → 3 ≤ length l → All (Sound y old new) l → Pairwise (λ s t. s.z ≡ t.z → ⊥) l
       → Three y old new (first_three l)

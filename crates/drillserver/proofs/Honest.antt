@@ -84,10 +84,10 @@ module _ {P : Type 0} {G : Operations P} (laws : GroupLaws G) {E : Exponents} (e
 
   -- a witness made from the word n by one who answers by γ
   abbrev equivalence_by : P → (γ n : ℕ) → EquivalenceWitness P
-  equivalence_by y γ n = record { z = remainder E n; Answered = proved_transcript G E (folded_key G y (remainder E n)) γ (sum E (remainder E n) γ) (next_challenges E n) }
+  equivalence_by y γ n = record { z = remainder E n; answered = proved_transcript G E (folded_key G y (remainder E n)) γ (sum E (remainder E n) γ) (next_challenges E n) }
 
   abbrev disjunctive_by : Comparison P → Setting → (γ n : ℕ) → DisjunctiveWitness P
-  disjunctive_by k s γ n = record { z = remainder E n; Answered = made_disjunction G E k s (remainder E n) γ (next_challenges E n) (lowest_bits E (word n 3)) }
+  disjunctive_by k s γ n = record { z = remainder E n; answered = made_disjunction G E k s (remainder E n) γ (next_challenges E n) (lowest_bits E (word n 3)) }
 
   -- what is drawn from a witness, by whether the first branch's challenges are equal
   abbrev settled : Setting → Bool
@@ -141,7 +141,7 @@ module _ {P : Type 0} {G : Operations P} (laws : GroupLaws G) {E : Exponents} (e
     other_accepted : (new : Ciphertext P) → transcript_accepted G k.key k.inputs.first new z_of (simulated new) ≡ true
     other_accepted new = simulated_transcript_accepted laws k.key k.inputs.first new z_of z_of other
 
-    whole : (s : Setting) → splits (disjunctive_by k s γ n).Answered ≡ true
+    whole : (s : Setting) → splits (disjunctive_by k s γ n).answered ≡ true
     whole Straight = ap₂ both (eq-eqb _ _ (xor_back (next_challenges E n).first other)) (eq-eqb _ _ (xor_back (next_challenges E n).second other))
     whole Swapped = ap₂ both (eq-eqb _ _ (xor_front (next_challenges E n).first other)) (eq-eqb _ _ (xor_front (next_challenges E n).second other))
 

@@ -98,7 +98,7 @@ module _ {Point : Type 0} (G : Operations Point) (E : Exponents) where
   abbrev pub equivalence_witness_at : (y : Point) → Task → (j n : ℕ) → EquivalenceWitness Point
   equivalence_witness_at y t j n = record {
     z = posted_z E t.kind.fault j (remainder E n);
-    Answered = proved_transcript (folded_key G y (remainder E n)) (product_answering E t (remainder E n)) (sum E (remainder E n) (product_answering E t (remainder E n))) (next_challenges E n);
+    answered = proved_transcript (folded_key G y (remainder E n)) (product_answering E t (remainder E n)) (sum E (remainder E n) (product_answering E t (remainder E n))) (next_challenges E n);
   }
 
   unfoldable pub made_equivalence_witness : (y : Point) → Task → (j : ℕ) → EquivalenceWitness Point
@@ -108,7 +108,7 @@ module _ {Point : Type 0} (G : Operations Point) (E : Exponents) where
   abbrev pub disjunctive_witness_at : Comparison Point → Task → (n : ℕ) → DisjunctiveWitness Point
   disjunctive_witness_at k t n = record {
     z = remainder E n;
-    Answered = made_disjunction k (proved_branch t.kind.outputs) (remainder E n) (branch_answering E t (remainder E n)) (made_challenges E t.kind.fault n) (lowest_bits E (word n 3));
+    answered = made_disjunction k (proved_branch t.kind.outputs) (remainder E n) (branch_answering E t (remainder E n)) (made_challenges E t.kind.fault n) (lowest_bits E (word n 3));
   }
 
   unfoldable pub made_disjunctive_witness : Comparison Point → Task → (j : ℕ) → DisjunctiveWitness Point

@@ -354,7 +354,7 @@ fn make_equivalence_witness<G: Group>(
     };
     Witness {
         z: post_z(task.kind.fault, j, z),
-        Answered: prove(g, fold_key(g, key, z), gamma, z.add(gamma), challenges),
+        answered: prove(g, fold_key(g, key, z), gamma, z.add(gamma), challenges),
     }
 }
 
@@ -417,7 +417,7 @@ fn make_disjunctive_witness<G: Group>(
     let branch = branch_of(task.kind.outputs);
     Witness {
         z: z.post(),
-        Answered: make_disjunction(g, comparison, branch, z, gamma, challenges, other),
+        answered: make_disjunction(g, comparison, branch, z, gamma, challenges, other),
     }
 }
 

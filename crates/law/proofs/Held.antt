@@ -51,7 +51,7 @@ module _ {P : Type 0} (T : Terms P) (laws : GroupLaws T.group) (n : ℕ) (within
         record {
           comparator = c;
           next = there;
-          Answered = z.answers ∙ ap₂ (λ i j. Stepped i j c) u.1 next;
+          answered = z.answers ∙ ap₂ (λ i j. Stepped i j c) u.1 next;
           two_wires = apart;
           on_wires = inside;
           found = u.0.wires_are;

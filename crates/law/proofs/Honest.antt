@@ -100,13 +100,13 @@ compared = comparison_at (element 8 tt) (ciphertext 18 9 tt tt ∷ ciphertext 1 
 equivalence_at : ℕ → EquivalenceWitness (Residue 23 11)
 equivalence_at z = record {
   z = z;
-  Answered = record { commitment = power group1 (folded_key group1 (element 8 tt) z) 3; first = record { challenge = 1; exponent = 9 }; second = record { challenge = 2; exponent = 4 } };
+  answered = record { commitment = power group1 (folded_key group1 (element 8 tt) z) 3; first = record { challenge = 1; exponent = 9 }; second = record { challenge = 2; exponent = 4 } };
 }
 
 disjunction_at : ℕ → DisjunctiveWitness (Residue 23 11)
 disjunction_at z = record {
   z = z;
-  Answered = record {
+  answered = record {
     challenges = record { first = 6; second = 5 };
     straight = record {
       commitment = quotient group1 (power group1 (folded_key group1 (element 8 tt) z) 2) (power group1 (folded_quotient group1 compared.inputs.first compared.outputs.first z) 3);

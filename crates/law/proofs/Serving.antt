@@ -56,8 +56,8 @@ module _ {P : Type 0} (T : Terms P) (laws : GroupLaws T.group) (exponents : Expo
         go : (b : Bool) → eqb s.server s.servers ≡ b → ServedBy T n ss p words s (cond b
             (record { wires = routed ss words s.wires; start = routed ss words s.wires; servers = s.servers; stage = Finished; posted = s.posted; completed = s.completed + 1; server = s.server; next = 0 })
             (record { wires = routed ss words s.wires; start = routed ss words s.wires; servers = s.servers; stage = Turning; posted = s.posted; completed = s.completed + 1; server = s.server + 1; next = 0 }))
-        go true e = record { wires = on_wires; long = still_long; start = refl; completed = refl; servers = refl; next = refl; GoesOn = λ h. absurd (h (eqb-true _ _ e)); finishes = λ h. refl }
-        go false e = record { wires = on_wires; long = still_long; start = refl; completed = refl; servers = refl; next = refl; GoesOn = λ h. (refl, refl); finishes = λ h. absurd (eqb-false _ _ e h) }
+        go true e = record { wires = on_wires; long = still_long; start = refl; completed = refl; servers = refl; next = refl; goes_on = λ h. absurd (h (eqb-true _ _ e)); finishes = λ h. refl }
+        go false e = record { wires = on_wires; long = still_long; start = refl; completed = refl; servers = refl; next = refl; goes_on = λ h. (refl, refl); finishes = λ h. absurd (eqb-false _ _ e h) }
 
     steps_end : s.next ≡ 0 → ServedBy T n ss p words s (after_steps T T.comparators (honest_steps T T.comparators ss words s) s)
     steps_end next = go T.comparators refl

@@ -32,7 +32,7 @@ module _ {Point : Type 0} (T : Terms Point) (n : ℕ) where
     pub servers : s'.servers ≡ s.servers
     pub next : s'.next ≡ 0
     -- the next server's turn begins, or the round is finished
-    pub GoesOn : (s.server ≢ s.servers) → (s'.stage ≡ Turning) × (s'.server ≡ s.server + 1)
+    pub goes_on : (s.server ≢ s.servers) → (s'.stage ≡ Turning) × (s'.server ≡ s.server + 1)
     pub finishes : s.server ≡ s.servers → s'.stage ≡ Finished
 
   -- by some settings that bring p about

@@ -31,7 +31,7 @@ module _ {Point : Type 0} (T : Terms Point) where
   pub record StepHeld (a : Account Point) (before after : State (Ciphertext Point)) (m : Message Point ℕ) (t : Taken) : Type 0 where
     pub comparator : Comparator
     pub next : nth T.comparators (length a.present) ≡ Some comparator
-    pub Answered : t ≡ Stepped (present_server a) (length a.present) comparator
+    pub answered : t ≡ Stepped (present_server a) (length a.present) comparator
     pub two_wires : comparator.first < comparator.second
     pub on_wires : comparator.second < length before.wires
     pub found : before.wires ≡ present_list T a

@@ -5,7 +5,7 @@ use Rattle.plan.specs.declared.Comparator.{Comparator}
 use Rattle.refusal.specs.Table.{refused_at}
 use Rattle.refusal.specs.declared.Reason.{Reason}
 use Rattle.refusal.specs.declared.Refusal.{Refusal}
-use Rattle.roundcheck.specs.Checks.{plan_kind, Laid_out, next_opening, Checks}
+use Rattle.roundcheck.specs.Checks.{plan_kind, LaidOut, next_opening, Checks}
 use Rattle.roundcheck.specs.declared.kinds.PlanKind.{PlanKind}
 use Rattle.roundcheck.specs.declared.report.Ending.{Ending}
 use Rattle.roundcheck.specs.declared.report.Ending.TheVariants.{Judged, Refused}
@@ -32,7 +32,7 @@ module _ (Checked : List Line → Ending → Type 0) (Planned : ℕ → List Com
 
 -- the plan that an opening names
 abbrev pub OpeningPlan : Opening → ℕ → List Comparator → Type 0
-OpeningPlan o n cs = (kind : PlanKind) × (plan_kind o.plan ≡ Some kind) × (n ≡ o.wires) × Laid_out kind n cs
+OpeningPlan o n cs = (kind : PlanKind) × (plan_kind o.plan ≡ Some kind) × (n ≡ o.wires) × LaidOut kind n cs
 
 -- the plan that a file's opening names
 abbrev pub FilePlan : List ℕ → ℕ → List Comparator → Type 0

@@ -61,14 +61,14 @@ ends_turn (Expel server) count = true
 abbrev pub last_ends : List Line → ℕ → Bool
 last_ends lines count = both (nat_lt 0 (length lines)) (ends_turn (slice_index_or lines (length lines - 1) Close) count)
 
-abbrev pub GoesOn : Verdict → Bool
-GoesOn Stands = false
-GoesOn Void = false
-GoesOn Unfinished = true
+abbrev pub goes_on : Verdict → Bool
+goes_on Stands = false
+goes_on Void = false
+goes_on Unfinished = true
 
 -- a server's turn begins behind the lines of a file that ended so
 abbrev pub turn_begins : List Line → Ending → ℕ → Bool
-turn_begins lines (Judged standing) count = both (GoesOn standing.verdict) (last_ends lines count)
+turn_begins lines (Judged standing) count = both (goes_on standing.verdict) (last_ends lines count)
 turn_begins lines (Refused f) count = false
 
 -- an entry for each of n wires, and six words for each comparator

@@ -42,9 +42,9 @@ abbrev pub plan_kind : ℕ → Option PlanKind
 plan_kind n = cond (n == 1) (Some Chain) (cond (n == 2) (Some Butterfly) None)
 
 -- the plan of a kind over n wires lists these comparators
-abbrev pub Laid_out : PlanKind → ℕ → List Comparator → Type 0
-Laid_out Chain n cs = Fits n × (cs ≡ chain n)
-Laid_out Butterfly n cs = (k : ℕ) × (1 ≤ k) × (k ≤ 6) × (2 ^ k ≡ n) × (cs ≡ butterfly k)
+abbrev pub LaidOut : PlanKind → ℕ → List Comparator → Type 0
+LaidOut Chain n cs = Fits n × (cs ≡ chain n)
+LaidOut Butterfly n cs = (k : ℕ) × (1 ≤ k) × (k ≤ 6) × (2 ^ k ≡ n) × (cs ≡ butterfly k)
 
 -- An opening or draws, with their offset and the place behind them. A reader whose file still wants one of these gives no other
 -- record and does not come to the end.
@@ -117,8 +117,8 @@ module _ {Point : Type 0} (G : Operations Point) (E : Exponents) (number : ℕ �
   abbrev pub ChecksPlan : Option PlanKind → ℕ → Opening → Place → List Line → Ending → Type 0
   ChecksPlan None offset o q lines ending = Stops (refused_at UnknownGroupOrPlan offset) lines ending
   ChecksPlan (Some kind) offset o q lines ending =
-      ((cs : List Comparator) × Laid_out kind o.wires cs × ChecksRound o.wires cs offset o q lines ending)
-      ⊎ (((cs : List Comparator) → Laid_out kind o.wires cs → ⊥) × Stops (refused_at UnfitWires offset) lines ending)
+      ((cs : List Comparator) × LaidOut kind o.wires cs × ChecksRound o.wires cs offset o q lines ending)
+      ⊎ (((cs : List Comparator) → LaidOut kind o.wires cs → ⊥) × Stops (refused_at UnfitWires offset) lines ending)
 
 -- the round in the group that the opening names
 abbrev pub ChecksGroup : Option GroupKind → ℕ → Opening → Place → List Line → Ending → Type 0

@@ -112,13 +112,13 @@ samples_same {a} {b} {c} {x} {y} {z} e f h = ap₂ (λ a b. record { first = a; 
 
 -- what a disjunctive witness shows does not depend on its commitments
 pub drawn_at : {A P : Type 0} (E : Exponents) (point : A → P) (w : Witness ℕ (Disjunction A ℕ)) → drawn E w ≡ drawn E (disjunctive_meaning point (λ n. n) w)
-drawn_at {A} {P} E point w = go (eqb w.Answered.straight.first.challenge w.Answered.straight.second.challenge)
+drawn_at {A} {P} E point w = go (eqb w.answered.straight.first.challenge w.answered.straight.second.challenge)
   where
     d : Disjunction A ℕ
-    d = w.Answered
+    d = w.answered
 
     e : Disjunction P ℕ
-    e = (disjunctive_meaning point (λ n. n) w).Answered
+    e = (disjunctive_meaning point (λ n. n) w).answered
 
     go : (b : Bool) → ◌≡◌ {A = Drawn ℕ}
         (record { setting = elim b [ true ↦ Swapped | false ↦ Straight ]; sample = record { z = w.z; gamma = gamma E (branch_of (elim b [ true ↦ Swapped | false ↦ Straight ]) d).first (branch_of (elim b [ true ↦ Swapped | false ↦ Straight ]) d).second } })

@@ -69,7 +69,7 @@ module _ (E : Exponents) where
   transcript_fits t = both (answer_fits t.first) (answer_fits t.second)
 
   abbrev pub equivalence_fits : {Point : Type 0} → EquivalenceWitness Point → Bool
-  equivalence_fits w = both (nat_lt w.z E.order) (transcript_fits w.Answered)
+  equivalence_fits w = both (nat_lt w.z E.order) (transcript_fits w.answered)
 
   abbrev pub disjunction_fits : {Point : Type 0} → Disjunction Point ℕ → Bool
   disjunction_fits d =
@@ -77,7 +77,7 @@ module _ (E : Exponents) where
       (both (transcript_fits d.straight) (transcript_fits d.swapped))
 
   abbrev pub disjunctive_fits : {Point : Type 0} → DisjunctiveWitness Point → Bool
-  disjunctive_fits w = both (nat_lt w.z E.order) (disjunction_fits w.Answered)
+  disjunctive_fits w = both (nat_lt w.z E.order) (disjunction_fits w.answered)
 
 -- the parts of both challenges on the branches add up to them, bit by bit
 abbrev pub splits : {Point Number : Type 0} → Disjunction Point Number → Bool
@@ -106,10 +106,10 @@ module _ {Point : Type 0} (G : Operations Point) where
 
   -- why a witness is refused
   abbrev pub judge_equivalence : Exponents → Comparison Point → EquivalenceWitness Point → Option Reason
-  judge_equivalence E k w = judgement (equivalence_fits E w) w.Answered.first.challenge w.Answered.second.challenge (product_accepted k w.z w.Answered)
+  judge_equivalence E k w = judgement (equivalence_fits E w) w.answered.first.challenge w.answered.second.challenge (product_accepted k w.z w.answered)
 
   abbrev pub judge_disjunctive : Exponents → Comparison Point → DisjunctiveWitness Point → Option Reason
-  judge_disjunctive E k w = judgement (disjunctive_fits E w) w.Answered.challenges.first w.Answered.challenges.second (disjunction_accepted k w.z w.Answered)
+  judge_disjunctive E k w = judgement (disjunctive_fits E w) w.answered.challenges.first w.answered.challenges.second (disjunction_accepted k w.z w.answered)
 
   -- the first refusal among the witnesses of one proof: no z twice, then each witness in order
   unfoldable pub equivalence_refusal : Exponents → Comparison Point → List (EquivalenceWitness Point) → Option Refusal

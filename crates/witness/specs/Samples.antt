@@ -45,13 +45,13 @@ module _ (E : Exponents) where
       product E (difference E a.exponent b.exponent) (E.inverse (difference E (remainder E a.challenge) (remainder E b.challenge)))
 
   abbrev pub equivalence_sample : {Point : Type 0} → EquivalenceWitness Point → Sample ℕ
-  equivalence_sample w = record { z = w.z; gamma = gamma w.Answered.first w.Answered.second }
+  equivalence_sample w = record { z = w.z; gamma = gamma w.answered.first w.answered.second }
 
   abbrev pub disjunctive_sample : {Point : Type 0} → DisjunctiveWitness Point → Setting → Sample ℕ
-  disjunctive_sample w s = record { z = w.z; gamma = gamma (branch_of s w.Answered).first (branch_of s w.Answered).second }
+  disjunctive_sample w s = record { z = w.z; gamma = gamma (branch_of s w.answered).first (branch_of s w.answered).second }
 
   abbrev pub drawn : {Point : Type 0} → DisjunctiveWitness Point → Drawn ℕ
-  drawn w = record { setting = setting_of w.Answered; sample = disjunctive_sample w (setting_of w.Answered) }
+  drawn w = record { setting = setting_of w.answered; sample = disjunctive_sample w (setting_of w.answered) }
 
 abbrev pub same_setting : Setting → Setting → Bool
 same_setting Straight Straight = true

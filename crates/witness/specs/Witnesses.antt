@@ -23,7 +23,7 @@ module _ {Element Point Number : Type 0} (point : Element → Point) (number : N
   disjunction_meaning d = record { challenges = d.challenges; straight = transcript_meaning d.straight; swapped = transcript_meaning d.swapped }
 
   abbrev pub equivalence_meaning : Witness Number (Transcript Element Number) → EquivalenceWitness Point
-  equivalence_meaning w = record { z = number w.z; Answered = transcript_meaning w.Answered }
+  equivalence_meaning w = record { z = number w.z; answered = transcript_meaning w.answered }
 
   abbrev pub disjunctive_meaning : Witness Number (Disjunction Element Number) → DisjunctiveWitness Point
-  disjunctive_meaning w = record { z = number w.z; Answered = disjunction_meaning w.Answered }
+  disjunctive_meaning w = record { z = number w.z; answered = disjunction_meaning w.answered }

@@ -100,16 +100,16 @@ fn examine_equivalence<G: Group>(
     let Some(read) = read_equivalence::<G::Element, G::Exponent>(witness) else {
         return Err(Reason::UnfitWitnessNumber.at(place));
     };
-    let Witness { z, Answered } = read;
+    let Witness { z, answered } = read;
     let Transcript {
         commitment: _,
         first,
         second,
-    } = Answered;
+    } = answered;
     if first.challenge == second.challenge {
         return Err(Reason::EqualChallenges.at(place));
     }
-    if !product_holds(g, comparison, z, Answered) {
+    if !product_holds(g, comparison, z, answered) {
         return Err(Reason::UnacceptedAnswer.at(place));
     }
     Ok(Sample {
@@ -159,12 +159,12 @@ fn examine_disjunctive<G: Group>(
     let Some(read) = read_disjunctive::<G::Element, G::Exponent>(witness) else {
         return Err(Reason::UnfitWitnessNumber.at(place));
     };
-    let Witness { z, Answered } = read;
-    let challenges = Answered.challenges;
+    let Witness { z, answered } = read;
+    let challenges = answered.challenges;
     if challenges.first == challenges.second {
         return Err(Reason::EqualChallenges.at(place));
     }
-    if !disjunction_holds(g, comparison, z, Answered) {
+    if !disjunction_holds(g, comparison, z, answered) {
         return Err(Reason::UnacceptedAnswer.at(place));
     }
     Ok(draw_of::<G::Element, G::Exponent>(read))

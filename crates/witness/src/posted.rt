@@ -34,5 +34,5 @@ pub struct Disjunction<E, N> {
 #[derive(Clone, Copy)]
 pub struct Witness<N, T> {
     pub z: N,
-    pub Answered: T,
+    pub answered: T,
 }

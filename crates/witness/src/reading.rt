@@ -122,10 +122,10 @@ pub(crate) fn read_equivalence<E: Copy, X: Exponent>(
         (equivalence_fits X.Exponent.exponents (equivalence_meaning (λ e. e) X.Exponent.number witness) ≡ false)
         (λ w. (equivalence_fits X.Exponent.exponents (equivalence_meaning (λ e. e) X.Exponent.number witness) ≡ true) × (equivalence_meaning (λ e. e) X.Exponent.value w ≡ equivalence_meaning (λ e. e) X.Exponent.number witness)) }
 {
-    let Witness { z, Answered } = witness;
+    let Witness { z, answered } = witness;
     let z = X::read(z)?;
-    let Answered = read_transcript::<E, X>(Answered)?;
-    Some(Witness { z, Answered })
+    let answered = read_transcript::<E, X>(answered)?;
+    Some(Witness { z, answered })
 }
 
 // Reads a witness of the disjunctive proof.
@@ -136,8 +136,8 @@ pub(crate) fn read_disjunctive<E: Copy, X: Exponent>(
         (disjunctive_fits X.Exponent.exponents (disjunctive_meaning (λ e. e) X.Exponent.number witness) ≡ false)
         (λ w. (disjunctive_fits X.Exponent.exponents (disjunctive_meaning (λ e. e) X.Exponent.number witness) ≡ true) × (disjunctive_meaning (λ e. e) X.Exponent.value w ≡ disjunctive_meaning (λ e. e) X.Exponent.number witness)) }
 {
-    let Witness { z, Answered } = witness;
+    let Witness { z, answered } = witness;
     let z = X::read(z)?;
-    let Answered = read_disjunction::<E, X>(Answered)?;
-    Some(Witness { z, Answered })
+    let answered = read_disjunction::<E, X>(answered)?;
+    Some(Witness { z, answered })
 }

@@ -82,12 +82,12 @@ pub(crate) fn gamma_of<X: Exponent>(first: Answer<X>, second: Answer<X>) -> X
 pub(crate) fn draw_of<E: Copy, X: Exponent>(witness: Witness<X, Disjunction<E, X>>) -> Drawn<X>
     ensures { drawn_meaning X.Exponent.value result ≡ drawn X.Exponent.exponents (disjunctive_meaning (λ e. e) X.Exponent.value witness) }
 {
-    let Witness { z, Answered } = witness;
+    let Witness { z, answered } = witness;
     let Disjunction {
         challenges: _,
         straight,
         swapped,
-    } = Answered;
+    } = answered;
     if straight.first.challenge != straight.second.challenge {
         let gamma = gamma_of(straight.first, straight.second);
         return Drawn {

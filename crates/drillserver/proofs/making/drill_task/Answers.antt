@@ -8,9 +8,9 @@ pub returns : goal.returns
 returns g c =
     let G = g.G.Group.operations in
     let E = g.G.Exponent.Exponent.exponents in
-    let Answered = drilled_meaning g.G.Exponent.Exponent.value c.drill.result in
-    let drilled : DrilledAsMade G E c.args.task Answered = search rules in
+    let answered = drilled_meaning g.G.Exponent.Exponent.value c.drill.result in
+    let drilled : DrilledAsMade G E c.args.task answered = search rules in
     record {
       drilled = drilled;
-      honest = honestly_answered g.G.Group.laws g.G.Exponent.Exponent.laws c.order.ensures.same_order c.args.task Answered drilled;
+      honest = honestly_answered g.G.Group.laws g.G.Exponent.Exponent.laws c.order.ensures.same_order c.args.task answered drilled;
     }

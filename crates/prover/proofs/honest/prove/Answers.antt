@@ -27,9 +27,9 @@ returns g c =
     let ready = no_refusal (unready G S question bytes) _ _ c.in_ok-committed.committed c.in_ok-committed.ensures.outcome in
     let same : committed_meaning point value c.in_ok-committed.committed ≡ committed G E S (outputs_made G y inputs c.args.setting secrets) question =
     ready.1 ∙ ap (λ m. committed G E S m question) (c.make_outputs-made.ensures ∙ ap (outputs_made G y inputs c.args.setting) read.1) in
-    let Answered : Committed P ℕ → ℕ → Type 0 = λ k n. Outcome (unready G S k.question n) c.args.place (λ m. message_meaning point number m ≡ answer_message G E S k) c.answer.result in
+    let answered : Committed P ℕ → ℕ → Type 0 = λ k n. Outcome (unready G S k.question n) c.args.place (λ m. message_meaning point number m ≡ answer_message G E S k) c.answer.result in
     let outcome : Outcome (unready G S question bytes) c.args.place (λ m. message_meaning point number m ≡ honest_message G E S y inputs c.args.setting secrets question) c.answer.result =
-    subst (λ k. Answered k bytes) same (subst (Answered (committed_meaning point value c.in_ok-committed.committed)) c.commit.auto.buffer c.answer.ensures.outcome) in
+    subst (λ k. answered k bytes) same (subst (answered (committed_meaning point value c.in_ok-committed.committed)) c.commit.auto.buffer c.answer.ensures.outcome) in
     let exponents = g.G.Exponent.Exponent.laws in
     let order = c.in_ok-committed.ensures.same_order in
     let positive : 0 < E.order = let h = g.G.Group.laws.some_order in omega (arith, order) in

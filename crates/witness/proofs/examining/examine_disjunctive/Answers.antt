@@ -12,7 +12,7 @@ returns-in_default g c = ap (at_place c.args.place) (unfit _ _ _ _ c.in_default.
 pub returns-then-challenges : goal.returns-then-challenges
 returns-then-challenges g c =
     let read = c.in-Some.ensures in
-    ap (at_place c.args.place) (equal _ _ _ _ read.0 (sym (ap (λ w. w.Answered.challenges.first) read.1) ∙ c.if-challenges.true ∙ ap (λ w. w.Answered.challenges.second) read.1))
+    ap (at_place c.args.place) (equal _ _ _ _ read.0 (sym (ap (λ w. w.answered.challenges.first) read.1) ∙ c.if-challenges.true ∙ ap (λ w. w.answered.challenges.second) read.1))
     ∙ ap Some (sym c.at-then-challenges.ensures)
 
 pub returns-then-not-disjunction_holds : goal.returns-then-not-disjunction_holds
@@ -23,10 +23,10 @@ returns-then-not-disjunction_holds g c =
     let w = disjunctive_meaning point g.G.Exponent.Exponent.number c.args.witness in
     let read = c.in-Some.ensures in
     let same : disjunctive_meaning point g.G.Exponent.Exponent.value c.in-Some.read ≡ w = ap (disjunctive_meaning point (λ n. n)) read.1 in
-    let holds : disjunction_accepted G k w.z w.Answered ≡ c.disjunction_holds.result =
-    ap (λ w. disjunction_accepted G k w.z w.Answered) (sym same) ∙ sym c.disjunction_holds.ensures in
+    let holds : disjunction_accepted G k w.z w.answered ≡ c.disjunction_holds.result =
+    ap (λ w. disjunction_accepted G k w.z w.answered) (sym same) ∙ sym c.disjunction_holds.ensures in
     ap (at_place c.args.place) (unaccepted _ _ _ _ read.0
-    (λ e. c.if-challenges.false (ap (λ w. w.Answered.challenges.first) read.1 ∙ e ∙ sym (ap (λ w. w.Answered.challenges.second) read.1)))
+    (λ e. c.if-challenges.false (ap (λ w. w.answered.challenges.first) read.1 ∙ e ∙ sym (ap (λ w. w.answered.challenges.second) read.1)))
     (holds ∙ c.if-not-disjunction_holds.true))
     ∙ ap Some (sym c.at-then-not-disjunction_holds.ensures)
 
@@ -38,10 +38,10 @@ returns g c =
     let w = disjunctive_meaning point g.G.Exponent.Exponent.number c.args.witness in
     let read = c.in-Some.ensures in
     let same : disjunctive_meaning point g.G.Exponent.Exponent.value c.in-Some.read ≡ w = ap (disjunctive_meaning point (λ n. n)) read.1 in
-    let holds : disjunction_accepted G k w.z w.Answered ≡ c.disjunction_holds.result =
-    ap (λ w. disjunction_accepted G k w.z w.Answered) (sym same) ∙ sym c.disjunction_holds.ensures in (
+    let holds : disjunction_accepted G k w.z w.answered ≡ c.disjunction_holds.result =
+    ap (λ w. disjunction_accepted G k w.z w.answered) (sym same) ∙ sym c.disjunction_holds.ensures in (
       nothing_refused _ _ _ _ read.0
-          (λ e. c.if-challenges.false (ap (λ w. w.Answered.challenges.first) read.1 ∙ e ∙ sym (ap (λ w. w.Answered.challenges.second) read.1)))
+          (λ e. c.if-challenges.false (ap (λ w. w.answered.challenges.first) read.1 ∙ e ∙ sym (ap (λ w. w.answered.challenges.second) read.1)))
           (holds ∙ c.if-not-disjunction_holds.false),
       c.draw_of.ensures
           ∙ drawn_at g.G.Exponent.Exponent.exponents point (disjunctive_meaning (λ e. e) g.G.Exponent.Exponent.value c.in-Some.read)

@@ -13,7 +13,7 @@ returns g c =
     let point = g.G.Group.point in
     let made = c.args.committed.made in
     let E = g.G.Exponent.Exponent.exponents in
-    let Answered = answered_proofs E made.setting (secrets_meaning g.G.Exponent.Exponent.value made.secrets) (point c.args.committed.equivalence) (point c.args.committed.first) (point c.args.committed.second) in
+    let answered = answered_proofs E made.setting (secrets_meaning g.G.Exponent.Exponent.value made.secrets) (point c.args.committed.equivalence) (point c.args.committed.first) (point c.args.committed.second) in
     let k = comparison_meaning point made.comparison in
     let G = g.G.Group.operations in
     let S = g.S.Source.words c.args.source.now in
@@ -24,6 +24,6 @@ returns g c =
     record {
       outcome = then_value _ _ Drawn _ c.in_ok-c.c _ c.in_ok-c.ensures (λ drawn.
           ap {B = Message g.G.Group.Point ℕ} (λ p. record { outputs = pair_meaning point made.comparison.outputs; proofs = p })
-          (ap (proofs_meaning point (λ (n : ℕ). n)) c.respond.ensures ∙ answered_meaning point E made.setting _ _ _ _ _ _ ∙ ap₂ Answered drawn.0 drawn.1));
+          (ap (proofs_meaning point (λ (n : ℕ). n)) c.respond.ensures ∙ answered_meaning point E made.setting _ _ _ _ _ _ ∙ ap₂ answered drawn.0 drawn.1));
       cleared = search rules;
     }
