@@ -1,6 +1,8 @@
 #!/usr/bin/env python3
 """Brings the repository's own names of definitions, fields and lemmas to one spelling: words in snake case, types and
-facts in upper camel case. Run once, at the top of the repository, after the script of the toolchain that turns an older repository.
+facts in upper camel case with neither - nor _. Two words that are facts (FACTS) become names of facts, and getD in a
+lemma's name becomes get_or, as the library calls that function today. Run once, at the top of the repository, after the
+toolchain's own script for an older repository.
 
 A name is the repository's own if an .antt file declares it. Names that Rattle makes (goals, steps of a proof), names that
 the library has too, strings and comments stay as they are.
