@@ -4,10 +4,15 @@ ghost use Rattle.std.specs.Prelude.{◌≡◌, ℕ, Some};
 ghost use Rattle.refusal.specs.Table.{number_of, station_of, refused_at};
 ghost use Rattle.refusal.specs.Text.{station_text, refusal_text};
 
+mod failure;
+
+pub use failure::Failure;
+
+use std::error::Error;
 use std::fmt;
 
 // The part of the checker that refuses.
-#[derive(Clone, Copy)]
+#[derive(Clone, Copy, Debug, PartialEq, Eq)]
 pub enum Station {
     File,
     Opening,
@@ -19,7 +24,7 @@ pub enum Station {
 }
 
 // Why a call was refused; docs/refusals.md has the whole table.
-#[derive(Clone, Copy)]
+#[derive(Clone, Copy, Debug, PartialEq, Eq)]
 pub enum Reason {
     // the file: over 65,536 bytes, or no mark
     NoRoundFile,
@@ -59,7 +64,7 @@ pub enum Reason {
 }
 
 // A refusal: why, and at which place of the input.
-#[derive(Clone, Copy)]
+#[derive(Clone, Copy, Debug, PartialEq, Eq)]
 pub struct Refusal {
     pub reason: Reason,
     pub place: usize,
@@ -147,15 +152,15 @@ impl fmt::Display for Station {
     ghost output = { λ s. Some (station_text s) };
 
     fn fmt<W: fmt::Write>(&self, f: &mut fmt::Formatter<W>) -> fmt::Result {
-        match self {
-            Station::File => write!(f, "file"),
-            Station::Opening => write!(f, "opening"),
-            Station::Group => write!(f, "group"),
-            Station::Board => write!(f, "board"),
-            Station::Source => write!(f, "source"),
-            Station::Proof => write!(f, "proof"),
-            Station::Drill => write!(f, "drill"),
-        }
+        f.write_str(match self {
+            Station::File => "file",
+            Station::Opening => "opening",
+            Station::Group => "group",
+            Station::Board => "board",
+            Station::Source => "source",
+            Station::Proof => "proof",
+            Station::Drill => "drill",
+        })
     }
 }
 
@@ -169,3 +174,5 @@ impl fmt::Display for Refusal {
         write!(f, "refused {number} {station} {place}")
     }
 }
+
+impl Error for Refusal {}
