@@ -26,3 +26,10 @@ pub struct Proofs<E, N> {
     pub equivalence: EquivalenceProof<E, N>,
     pub disjunction: DisjunctiveProof<E, N>,
 }
+
+// What each of both proofs has of a kind: a z, a challenge, or what it drew.
+#[derive(Clone, Copy)]
+pub struct OfBoth<T> {
+    pub equivalence: T,
+    pub disjunction: T,
+}

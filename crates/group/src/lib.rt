@@ -8,8 +8,8 @@ ghost use Rattle.group.specs.Operations.{Operations, GroupLaws, power};
 pub mod codes;
 pub mod reading;
 
-// A kind of exponents, known by its laws: the whole numbers below its order.
-pub trait Exponent: Copy {
+// A kind of exponents, known by its laws: the whole numbers below its order. Two are equal where they are one number.
+pub trait Exponent: Copy + PartialEq {
     // A number as it is posted, which may be too large.
     type Posted: Copy;
 
@@ -51,9 +51,6 @@ pub trait Exponent: Copy {
     fn post(self) -> Self::Posted
         ensures { number result ≡ value self };
 
-    fn equals(self, other: Self) -> bool
-        ensures { result ≡ (value self == value other) };
-
     fn add(self, other: Self) -> Self
         ensures { value result ≡ sum exponents (value self) (value other) };
 
@@ -66,10 +63,12 @@ pub trait Exponent: Copy {
     // The inverse, and 0 for 0.
     fn invert(self) -> Self
         ensures { value result ≡ exponents.inverse (value self) };
+
+    ghost compared: { (a b : Self) → Self.eq a b ≡ (value a == value b) };
 }
 
 // A code was to be written into a buffer of another length.
-#[derive(Clone, Copy)]
+#[derive(Clone, Copy, Debug, PartialEq, Eq)]
 pub struct WrongLength;
 
 // A group, known by its laws. What an element means is a point: a card's handles may differ for one point.

@@ -118,9 +118,6 @@ impl<
     }
 
     fn read(&self, code: &[u8]) -> Option<Residue<P, Q>> {
-        match read_four_bytes(code) {
-            Some(number) => Self::element(number),
-            None => None,
-        }
+        Self::element(read_four_bytes(code)?)
     }
 }

@@ -132,9 +132,6 @@ impl Group for Polynomials {
     }
 
     fn read(&self, code: &[u8]) -> Option<Polynomial> {
-        match read_four_bytes(code) {
-            Some(number) => element(number),
-            None => None,
-        }
+        element(read_four_bytes(code)?)
     }
 }

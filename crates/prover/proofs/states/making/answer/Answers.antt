@@ -5,7 +5,7 @@ use Rattle.prover.proofs.Outcomes.{then_value, answered_meaning}
 use Rattle.prover.specs.Honest.{answered_proofs, equivalence_challenge, disjunction_challenge}
 use Rattle.prover.specs.Secrets.{secrets_meaning}
 use Rattle.prover.specs.declared.states.Message.{Message}
-use Rattle.prover.specs.declared.states.making.Challenges.{Challenges}
+use Rattle.equivalence.specs.declared.proofs.OfBoth.{OfBoth}
 use Rattle.prover.proofs.states.making.answer.Goals as goal
 
 pub returns : goal.returns
@@ -16,9 +16,9 @@ returns g c =
     let answered = answered_proofs E made.setting (secrets_meaning g.G.Exponent.Exponent.value made.secrets) (point c.args.committed.equivalence) (point c.args.committed.first) (point c.args.committed.second) in
     let k = comparison_meaning point made.comparison in
     let G = g.G.Group.operations in
-    let S = g.S.Source.words c.args.source.now in
+    let S = g.S.Source.words c.args.challenger.now.source.now in
     let first = c.args.committed.question in
-    let Drawn : Challenges → Type 0 = λ d.
+    let Drawn : OfBoth ℕ → Type 0 = λ d.
     (d.equivalence ≡ equivalence_challenge G E S k (point c.args.committed.equivalence) first)
     × (d.disjunction ≡ disjunction_challenge G E S k (point c.args.committed.first) (point c.args.committed.second) first) in
     record {
