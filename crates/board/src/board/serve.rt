@@ -18,6 +18,7 @@ use clearing::Clearing;
 use group::{Exponent, Group};
 use plan::{Comparator, Plan, Setting};
 use posting::comparison::Pair;
+use posting::drawing::{Challenger, buffer_fits};
 use prover::honest::prove;
 use prover::states::Message;
 use refusal::{Reason, Refusal};
@@ -25,11 +26,10 @@ use source::Source;
 
 impl<'a, E: Copy> Board<'a, E> {
     // What stands on a comparator's two wires.
-    pub(crate) fn inputs_on(&mut self, on: Comparator) -> Pair<E>
-        requires first { on.first < length self.old.wires.now }
-        requires second { on.second < length self.old.wires.now }
-        ensures is { (d : Pair E) → result ≡ inputs_on d self.old.wires.now on }
-        ensures kept { self.new ≡ self.old }
+    pub(crate) fn inputs_on(&self, on: Comparator) -> Pair<E>
+        requires first { on.first < length self.now.wires.now }
+        requires second { on.second < length self.now.wires.now }
+        ensures { (d : Pair E) → result ≡ inputs_on d self.now.wires.now on }
     {
         let first = self.wires[on.first];
         let second = self.wires[on.second];
@@ -37,16 +37,13 @@ impl<'a, E: Copy> Board<'a, E> {
     }
 
     // The comparator that is next, where a turn is under way and the wires have it.
-    fn next_comparator<P: Plan>(&self, plan: &P) -> Option<Comparator>
+    pub(crate) fn next_comparator<P: Plan>(&self, plan: &P) -> Option<Comparator>
         ensures { result ≡ next_comparator (P.Plan.listing plan.now) (view self.now) }
     {
         match self.stage {
             Stage::Turning => {
                 let on = plan.comparator(self.next)?;
-                if on.second >= self.wires.len() {
-                    return None;
-                }
-                Some(on)
+                (on.second < self.wires.len()).then_some(on)
             }
             Stage::Gathering | Stage::Finished => None,
         }
@@ -72,7 +69,7 @@ pub fn honest_step<G: Group, P: Plan, S: Source>(
     let words = Clearing { places: words };
     let buffer = Clearing { places: buffer };
     let next = board.next;
-    if words.places.len() != 6 || buffer.places.len() < 11 * setup.group.code_width() {
+    if words.places.len() != 6 || !buffer_fits(setup.group, buffer.places.len()) {
         return Err(Reason::UnfitLength.at(next));
     }
     let Some(on) = board.next_comparator(setup.plan) else {
@@ -80,15 +77,18 @@ pub fn honest_step<G: Group, P: Plan, S: Source>(
     };
     let inputs = board.inputs_on(on);
     let question = question_of(setup.plan.count(), board.server, next);
+    let challenger = Challenger {
+        group: setup.group,
+        source: setup.source,
+        place: next,
+    };
     prove(
-        setup.group,
-        setup.source,
+        &challenger,
         board.key,
         inputs,
         setting,
         words.places,
         question,
         buffer.places,
-        next,
     )
 }

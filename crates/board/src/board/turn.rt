@@ -18,6 +18,7 @@ use crate::setup::Setup;
 use clearing::Clearing;
 use group::{Exponent, Group};
 use plan::{Comparator, Plan, Setting};
+use posting::drawing::{Challenger, buffer_fits};
 use prover::honest::prove;
 use prover::states::Message;
 use refusal::{Reason, Refusal};
@@ -42,17 +43,23 @@ fn serve_step<G: Group, P: Plan, S: Source>(
     ensures key { board.new.key ≡ board.old.key }
     ensures state { state_map (meaning G.Group.point) (view board.new) ≡ after_step (terms G.Group.operations G.Exponent.Exponent.exponents (S.Source.words setup.now.source.now) (G.Group.point board.old.key) (P.Plan.listing setup.now.plan.now)) (state_map (meaning G.Group.point) (view board.old)) (honest_step (terms G.Group.operations G.Exponent.Exponent.exponents (S.Source.words setup.now.source.now) (G.Group.point board.old.key) (P.Plan.listing setup.now.plan.now)) (state_map (meaning G.Group.point) (view board.old)) on setting words) (Some on) }
 {
-    let Setup {
-        group,
-        plan,
-        source,
-    } = *setup;
     let next = board.next;
-    let count = plan.count();
+    let count = setup.plan.count();
     let inputs = board.inputs_on(on);
     let question = question_of(count, board.server, next);
+    let challenger = Challenger {
+        group: setup.group,
+        source: setup.source,
+        place: next,
+    };
     let Message { outputs, proofs: _ } = prove(
-        group, source, board.key, inputs, setting, &mut words, question, buffer, next,
+        &challenger,
+        board.key,
+        inputs,
+        setting,
+        &mut words,
+        question,
+        buffer,
     )?;
     let _ = board.write(on, outputs, count);
     Ok(())
@@ -93,12 +100,12 @@ fn serve_steps<G: Group, P: Plan, S: Source>(
     ensures key { board.new.key ≡ board.old.key }
     ensures state { state_map (meaning G.Group.point) (view board.new) ≡ turned (terms G.Group.operations G.Exponent.Exponent.exponents (S.Source.words setup.now.source.now) (G.Group.point board.old.key) (P.Plan.listing setup.now.plan.now)) (P.Plan.listing setup.now.plan.now) settings.now words.now (state_map (meaning G.Group.point) (view board.old)) }
 {
-    for k in 0..settings.len() {
+    for (k, setting) in settings.iter().enumerate() {
         let Some(on) = setup.plan.comparator(k) else {
             return Err(Reason::WrongStage.at(k));
         };
         let six = six_words(words, k);
-        serve_step(board, setup, on, settings[k], six, buffer)?;
+        serve_step(board, setup, on, *setting, six, buffer)?;
     }
     Ok(())
 }
@@ -119,7 +126,7 @@ fn lengths_fit<G: Group, P: Plan>(
     permutation == plan.wires()
         && places == count
         && words == 6 * count
-        && bytes >= 11 * group.code_width()
+        && buffer_fits(group, bytes)
 }
 
 // Whether a turn is at its comparator 0, on as many wires as the plan has.
@@ -176,6 +183,7 @@ pub fn serve<G: Group, P: Plan, S: Source>(
     if !is_at_start(board, plan.wires()) {
         return Err(Reason::WrongStage.at(next));
     }
+    // by `map_err` the refusal's place would go through a closure's contract, and the proof did not close
     if let Err(refusal) = plan.route(permutation, settings.places) {
         return Err(refusal.reason.at(next));
     }

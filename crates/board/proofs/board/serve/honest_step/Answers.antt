@@ -1,4 +1,4 @@
-use Rattle.std.proofs.Common.{◌≡◌, ℕ, ◌+◌, ◌-◌, ◌*◌, ◌≤◌, ltb, length, Some, None, Option, sym, refl, ap, ◌∙◌, subst, ap₂, arith, rules}
+use Rattle.std.proofs.Common.{◌≡◌, ℕ, ◌+◌, ◌-◌, ◌*◌, ◌≤◌, ltb, length, Some, None, Option, sym, refl, ap, ◌∙◌, subst, ap₂, arith, rules, leb-true}
 use Rattle.elgamal.specs.Ciphertexts.{meaning}
 use Rattle.equivalence.specs.Judgement.{unless}
 use Rattle.posting.specs.Comparison.{pair_meaning}
@@ -24,7 +24,7 @@ returns-in_default g c =
     let b = c.args.board.now in
     let T = terms g.G.Group.operations g.G.Exponent.Exponent.exponents (g.S.Source.words c.args.setup.now.source.now) (point b.key) (g.P.Plan.listing c.args.setup.now.plan.now) in
     let s = state_map (meaning point) (view b) in
-    let room : 11 * g.G.Group.operations.width ≤ length c.args.buffer.now = omega (arith, c.if-buffer-code_width.false, c.code_width.ensures) in
+    let room : 11 * g.G.Group.operations.width ≤ length c.args.buffer.now = leb-true _ _ (sym c.buffer_fits.ensures ∙ c.if-not-buffer_fits.false) in
     let judged = judged_next T s (length c.args.words.now) (length c.args.buffer.now) None c.if-words-ne6.false room (next_map (meaning point) T.comparators (view b) ∙ sym c.in_default.ensures) in
     record {
       outcome = rw judged c.at-in_default.ensures;
@@ -55,39 +55,36 @@ returns g c =
     let bytes = length c.args.buffer.now in
     let q = c.question_of-question.result in
     let inputs = pair_meaning point c.inputs_on-inputs.result in
-    let room : 11 * G.width ≤ bytes = omega (arith, c.if-buffer-code_width.false, c.code_width.ensures) in
+    let room : 11 * G.width ≤ bytes = leb-true _ _ (sym c.buffer_fits.ensures ∙ c.if-not-buffer_fits.false) in
     let found : next_comparator cs s ≡ Some on = next_map (meaning point) cs (view b) ∙ sym c.in-Some.ensures in
     let here = next_is cs (view b) on (sym c.in-Some.ensures) in
     let wires = on_wires _ _ _ _ (g.met.P.Plan.lawful c.args.setup.now.plan.now).within (sym here.listed) in
-    let kept = c.inputs_on-inputs.ensures.kept in
-    let key : point c.inputs_on-inputs.new.self.key ≡ point b.key = ap (λ (x : Board g.row.G-Element.Denot). point x.key) kept in
     let same : q ≡ question T s =
-    c.question_of-question.ensures ∙ ap₂ (λ (n k : ℕ). 4 * (n * (k - 1) + b.next)) c.count.ensures (ap (λ (x : Board g.row.G-Element.Denot). x.server) kept) in
-    let read : (d : Pair g.G.Group.Point) → inputs ≡ _ = inputs_meaning point b.wires.now on c.inputs_on-inputs.result c.inputs_on-inputs.ensures.is (omega (arith, wires.0, here.inside)) here.inside in
+    c.question_of-question.ensures ∙ ap (λ (n : ℕ). 4 * (n * (b.server - 1) + b.next)) c.count.ensures in
+    let read : (d : Pair g.G.Group.Point) → inputs ≡ _ = inputs_meaning point b.wires.now on c.inputs_on-inputs.result c.inputs_on-inputs.ensures (omega (arith, wires.0, here.inside)) here.inside in
     let judged : judge_honest T s (length words) bytes ≡ unless (ltb (q + 3) S.reach) BeyondReach None =
     judged_next T s (length words) bytes (Some on) c.if-words-ne6.false room found ∙ ap (λ (k : ℕ). unless (ltb (k + 3) S.reach) BeyondReach None) (sym same) in
     let proved = judged_prove T s (length words) bytes q c.if-words-ne6.false room in
     let blanks : Pair g.G.Group.Point = record { first = blank G; second = blank G } in
     let number = g.G.Exponent.Exponent.number in
     let Made : Message g.row.G-Element.Denot _ → Type 0 =
-    λ m. message_meaning point number m ≡ honest_message G E S (point c.inputs_on-inputs.new.self.key) inputs c.args.setting (secrets_of E words) q in
+    λ m. message_meaning point number m ≡ honest_message G E S (point b.key) inputs c.args.setting (secrets_of E words) q in
     let Wanted : Message g.row.G-Element.Denot _ → Type 0 = λ m. HonestStep T s c.args.setting words (message_meaning point number m) in
     let outcome = outcome_more (unless (ltb (q + 3) S.reach) BeyondReach None) b.next Made Wanted c.prove.result
     (λ m e. (
       on,
       found,
       e
-          ∙ ap (λ (y : g.G.Group.Point). honest_message G E S y inputs c.args.setting (secrets_of E words) q) key
           ∙ ap₂ (λ (i : Pair g.G.Group.Point) (k : ℕ). honest_message G E S (point b.key) i c.args.setting (secrets_of E words) k) (read blanks) same,
     ))
     (subst (λ (j : Option Reason). Outcome j b.next Made c.prove.result) proved c.prove.ensures.outcome) in
     record {
       outcome = subst (λ (j : Option Reason). Outcome j b.next Wanted c.prove.result) (sym judged) outcome;
-      taken = made_more c.prove.result (λ m. Taken G E S (point c.inputs_on-inputs.new.self.key) inputs (message_meaning point number m) q) (λ m. judge_call T s (Step (message_meaning point number m)) bytes ≡ None)
+      taken = made_more c.prove.result (λ m. Taken G E S (point b.key) inputs (message_meaning point number m) q) (λ m. judge_call T s (Step (message_meaning point number m)) bytes ≡ None)
           (λ m e. honest_judged T s on bytes q inputs (message_meaning point number m) (next_is cs s on found) room (read (message_meaning point number m).outputs) same
-          (subst (λ (y : g.G.Group.Point). Taken G E S y inputs (message_meaning point number m) q) key e))
+          e)
           c.prove.ensures.taken;
-      kept = kept;
+      kept = refl;
       words_cleared = search rules;
       buffer_cleared = search rules;
     }

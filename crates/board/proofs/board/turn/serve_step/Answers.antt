@@ -19,15 +19,12 @@ use Rattle.board.proofs.board.turn.serve_step.Goals as goal
 pub write-requires : goal.write-requires
 write-requires g c =
     let plan = g.met.P.Plan.lawful c.args.setup.now.plan.now in
-    let kept = c.inputs_on-inputs.ensures.kept in
-    let wires = ap (λ (x : Board g.row.G-Element.Denot). length x.wires.now) kept in
-    let next = ap (λ (x : Board g.row.G-Element.Denot). x.next) kept in
     record {
-      first = omega (arith, c.requires.first, wires);
-      second = omega (arith, c.requires.second, wires);
-      next = omega (arith, c.requires.next, next, c.count-count.ensures);
+      first = c.requires.first;
+      second = c.requires.second;
+      next = omega (arith, c.requires.next, c.count-count.ensures);
       few = omega (arith, plan.few, c.count-count.ensures);
-      stage = ap (λ (x : Board g.row.G-Element.Denot). x.stage) kept ∙ c.requires.stage;
+      stage = c.requires.stage;
     }
 
 pub returns : goal.returns
@@ -46,18 +43,17 @@ returns g c =
     let m = c.in_ok-outputs.field-0 in
     let o = m.outputs in
     let inputs = pair_meaning point c.inputs_on-inputs.result in
-    let kept = c.inputs_on-inputs.ensures.kept in
-    let told = not_refused _ _ (λ x. message_meaning point number x ≡ honest_message G E S (point c.inputs_on-inputs.new.self.key) inputs c.args.setting (secrets_of E c.args.words) c.question_of-question.result) m c.in_ok-outputs.ensures.outcome in
+    let told = not_refused _ _ (λ x. message_meaning point number x ≡ honest_message G E S (point b.key) inputs c.args.setting (secrets_of E c.args.words) c.question_of-question.result) m c.in_ok-outputs.ensures.outcome in
     let blanks : Pair P = record { first = blank G; second = blank G } in
-    let read = inputs_meaning point b.wires.now on c.inputs_on-inputs.result c.inputs_on-inputs.ensures.is c.requires.first c.requires.second blanks in
+    let read = inputs_meaning point b.wires.now on c.inputs_on-inputs.result c.inputs_on-inputs.ensures c.requires.first c.requires.second blanks in
     let made : pair_meaning point o ≡ (honest_step T s on c.args.setting c.args.words).outputs =
     ap (λ (x : Message P ℕ). x.outputs) told.1
-    ∙ ap₂ (λ (y : P) (i : Pair P). honest_outputs G y i c.args.setting (secrets_of E c.args.words)) (ap (λ (x : Board g.row.G-Element.Denot). point x.key) kept) read in
+    ∙ ap (λ (i : Pair P). honest_outputs G (point b.key) i c.args.setting (secrets_of E c.args.words)) read in
     record {
       made = refl;
-      key = c.write.ensures.key ∙ ap (λ (x : Board g.row.G-Element.Denot). x.key) kept;
+      key = c.write.ensures.key;
       state = ap (state_map (meaning point)) c.write.ensures.state
-          ∙ map_stepped (meaning point) c.count-count.result (view c.inputs_on-inputs.new.self) on.first on.second o.first o.second
-          ∙ ap₂ (λ (n : ℕ) (x : Board g.row.G-Element.Denot). stepped_state n (state_map (meaning point) (view x)) on.first on.second (meaning point o.first) (meaning point o.second)) c.count-count.ensures kept
+          ∙ map_stepped (meaning point) c.count-count.result (view b) on.first on.second o.first o.second
+          ∙ ap (λ (n : ℕ). stepped_state n s on.first on.second (meaning point o.first) (meaning point o.second)) c.count-count.ensures
           ∙ ap (λ (x : Pair P). stepped_state (length cs) s on.first on.second x.first x.second) made;
     }
