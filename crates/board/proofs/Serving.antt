@@ -76,6 +76,11 @@ outcome_more None place P Q (Err e) f h = h
 outcome_more (Some why) place P Q (Ok x) f h = h
 outcome_more (Some why) place P Q (Err e) f h = h
 
+-- what is known at every d is known at one that the value picks
+pub made_at : {X E D : Type 0} (r : Result X E) (P : D → X → Type 0) (pick : X → D) → ((d : D) → IfOk r (P d)) → IfOk r (λ x. P (pick x) x)
+made_at (Ok x) P pick h = h (pick x)
+made_at (Err e) P pick h = tt
+
 pub made_more : {X E : Type 0} (r : Result X E) (P Q : X → Type 0) → ((x : X) → P x → Q x) → IfOk r P → IfOk r Q
 made_more (Ok x) P Q f h = f x h
 made_more (Err e) P Q f h = tt

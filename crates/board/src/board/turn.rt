@@ -12,14 +12,13 @@ ghost use Rattle.board.specs.States.{view, state_map};
 ghost use Rattle.board.specs.declared.events.Stage.TheVariants.{Turning};
 
 use super::Board;
-use super::step::question_of;
+use super::serve::prove_on;
 use crate::events::Stage;
 use crate::setup::Setup;
 use clearing::Clearing;
 use group::{Exponent, Group};
 use plan::{Comparator, Plan, Setting};
-use posting::drawing::{Challenger, buffer_fits};
-use prover::honest::prove;
+use posting::drawing::buffer_fits;
 use prover::states::Message;
 use refusal::{Reason, Refusal};
 use source::Source;
@@ -43,25 +42,8 @@ fn serve_step<G: Group, P: Plan, S: Source>(
     ensures key { board.new.key ≡ board.old.key }
     ensures state { state_map (meaning G.Group.point) (view board.new) ≡ after_step (terms G.Group.operations G.Exponent.Exponent.exponents (S.Source.words setup.now.source.now) (G.Group.point board.old.key) (P.Plan.listing setup.now.plan.now)) (state_map (meaning G.Group.point) (view board.old)) (honest_step (terms G.Group.operations G.Exponent.Exponent.exponents (S.Source.words setup.now.source.now) (G.Group.point board.old.key) (P.Plan.listing setup.now.plan.now)) (state_map (meaning G.Group.point) (view board.old)) on setting words) (Some on) }
 {
-    let next = board.next;
-    let count = setup.plan.count();
-    let inputs = board.inputs_on(on);
-    let question = question_of(count, board.server, next);
-    let challenger = Challenger {
-        group: setup.group,
-        source: setup.source,
-        place: next,
-    };
-    let Message { outputs, proofs: _ } = prove(
-        &challenger,
-        board.key,
-        inputs,
-        setting,
-        &mut words,
-        question,
-        buffer,
-    )?;
-    let _ = board.write(on, outputs, count);
+    let Message { outputs, proofs: _ } = prove_on(board, setup, on, setting, &mut words, buffer)?;
+    let _ = board.write(on, outputs, setup.plan.count());
     Ok(())
 }
 

@@ -12,9 +12,13 @@ use Rattle.board.proofs.Serving.{inputs_meaning}
 use Rattle.board.specs.Calls.{terms}
 use Rattle.board.specs.Rounds.{blank}
 use Rattle.board.specs.Serving.{honest_step}
+use Rattle.board.specs.Stages.{turning}
 use Rattle.board.specs.States.{view, state_map, stepped_state}
 use Rattle.board.specs.declared.board.Board.{Board}
 use Rattle.board.proofs.board.turn.serve_step.Goals as goal
+
+pub prove_on-requires : goal.prove_on-requires
+prove_on-requires g c = record { first = c.requires.first; second = c.requires.second; turn = omega (arith, c.args.board.now.done, ap turning c.requires.stage) }
 
 pub write-requires : goal.write-requires
 write-requires g c =
@@ -22,38 +26,28 @@ write-requires g c =
     record {
       first = c.requires.first;
       second = c.requires.second;
-      next = omega (arith, c.requires.next, c.count-count.ensures);
-      few = omega (arith, plan.few, c.count-count.ensures);
+      next = omega (arith, c.requires.next, c.count.ensures);
+      few = omega (arith, plan.few, c.count.ensures);
       stage = c.requires.stage;
     }
 
 pub returns : goal.returns
 returns g c =
-    let G = g.G.Group.operations in
-    let E = g.G.Exponent.Exponent.exponents in
-    let S = g.S.Source.words c.args.setup.now.source.now in
     let point = g.G.Group.point in
-    let P = g.G.Group.Point in
     let number = g.G.Exponent.Exponent.number in
     let cs = g.P.Plan.listing c.args.setup.now.plan.now in
     let b = c.args.board.now in
-    let T = terms G E S (point b.key) cs in
+    let T = terms g.G.Group.operations g.G.Exponent.Exponent.exponents (g.S.Source.words c.args.setup.now.source.now) (point b.key) cs in
     let s = state_map (meaning point) (view b) in
     let on = c.args.on in
     let m = c.in_ok-outputs.field-0 in
     let o = m.outputs in
-    let inputs = pair_meaning point c.inputs_on-inputs.result in
-    let told = not_refused _ _ (λ x. message_meaning point number x ≡ honest_message G E S (point b.key) inputs c.args.setting (secrets_of E c.args.words) c.question_of-question.result) m c.in_ok-outputs.ensures.outcome in
-    let blanks : Pair P = record { first = blank G; second = blank G } in
-    let read = inputs_meaning point b.wires.now on c.inputs_on-inputs.result c.inputs_on-inputs.ensures c.requires.first c.requires.second blanks in
-    let made : pair_meaning point o ≡ (honest_step T s on c.args.setting c.args.words).outputs =
-    ap (λ (x : Message P ℕ). x.outputs) told.1
-    ∙ ap (λ (i : Pair P). honest_outputs G (point b.key) i c.args.setting (secrets_of E c.args.words)) read in
+    let told = not_refused _ _ (λ x. message_meaning point number x ≡ honest_step T s on c.args.setting c.args.words) m c.in_ok-outputs.ensures.outcome in
     record {
       made = refl;
       key = c.write.ensures.key;
       state = ap (state_map (meaning point)) c.write.ensures.state
-          ∙ map_stepped (meaning point) c.count-count.result (view b) on.first on.second o.first o.second
-          ∙ ap (λ (n : ℕ). stepped_state n s on.first on.second (meaning point o.first) (meaning point o.second)) c.count-count.ensures
-          ∙ ap (λ (x : Pair P). stepped_state (length cs) s on.first on.second x.first x.second) made;
+          ∙ map_stepped (meaning point) c.count.result (view b) on.first on.second o.first o.second
+          ∙ ap (λ (n : ℕ). stepped_state n s on.first on.second (meaning point o.first) (meaning point o.second)) c.count.ensures
+          ∙ ap (λ (x : Message g.G.Group.Point ℕ). stepped_state (length cs) s on.first on.second x.outputs.first x.outputs.second) told.1;
     }
