@@ -256,7 +256,7 @@ pub fn check<G: Group, S: Source>(
     ensures cleared { buffer.new ≡ zeros 0 buffer.old }
 {
     let buffer = Clearing { places: buffer };
-    if !buffer_fits(challenger.group, buffer.places.len()) {
+    if !buffer_fits::<G>(buffer.places.len()) {
         return Err(Reason::UnfitLength.at(challenger.place));
     }
     check_within(challenger, comparison, proofs, first, buffer.places)

@@ -80,6 +80,9 @@ pub trait Group {
     // How many bytes an element's code has.
     const WIDTH: usize;
 
+    // The same number, where a contract speaks of it.
+    ghost WIDTH: { ℕ };
+
     ghost Point: { Type 0 };
 
     ghost point: { Self.Element → Point };
@@ -132,10 +135,6 @@ pub trait Group {
         ensures same { result ≡ true → point a ≡ point b }
         ensures told { point a ≡ point b → result ≡ true };
 
-    // `WIDTH`, where a contract can speak of it.
-    fn code_width(&self) -> usize
-        ensures { result ≡ operations.width };
-
     // Writes the element's code into a buffer of its length; into another nothing is written.
     fn write(&self, a: Self::Element, out: &mut [u8]) -> Result<(), WrongLength>
         ensures { Written operations.width (operations.code (point a)) out.old out.new result };
@@ -143,4 +142,6 @@ pub trait Group {
     // The element of a code; none where no element has it.
     fn read(&self, code: &[u8]) -> Option<Self::Element>
         ensures { MatchOption result ((x : Point) → operations.code x ≢ code.now) (λ e. operations.code (point e) ≡ code.now) };
+
+    ghost wide: { WIDTH ≡ operations.width };
 }

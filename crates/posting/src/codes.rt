@@ -43,7 +43,7 @@ impl<'a, G: Group> CodeWriter<'a, G> {
         ensures codes { Appended G.Group.operations (G.Group.point element ∷ []) self.old.end self.new.end self.old.buffer.now self.new.buffer.now }
         ensures long { length self.new.buffer.now ≡ length self.old.buffer.now }
     {
-        let end = self.end + self.group.code_width();
+        let end = self.end + G::WIDTH;
         let _ = self.group.write(element, &mut self.buffer[self.end..end]);
         self.end = end;
     }

@@ -33,10 +33,10 @@ pub enum Commitments<E> {
 }
 
 // Whether a posting buffer of so many bytes has room for eleven codes.
-pub fn buffer_fits<G: Group>(group: &G, bytes: usize) -> bool
+pub fn buffer_fits<G: Group>(bytes: usize) -> bool
     ensures { result ≡ buffer_fits G.Group.operations bytes }
 {
-    bytes >= 11 * group.code_width()
+    bytes >= 11 * G::WIDTH
 }
 
 impl<G: Group, S: Source> Challenger<'_, G, S> {
@@ -78,7 +78,7 @@ impl<G: Group, S: Source> Challenger<'_, G, S> {
         ensures cleared { buffer.new ≡ zeros 0 buffer.old }
     {
         let buffer = Clearing { places: buffer };
-        if !buffer_fits(self.group, buffer.places.len()) {
+        if !buffer_fits::<G>(buffer.places.len()) {
             return Err(Reason::UnfitLength.at(self.place));
         }
         self.draw_within(comparison, commitments, question, buffer.places)

@@ -28,7 +28,7 @@ pub fn call<G: Group, P: Plan, S: Source>(
     ensures cleared { buffer.new ≡ zeros 0 buffer.old }
 {
     let buffer = Clearing { places: buffer };
-    let fits = buffer_fits(setup.group, buffer.places.len());
+    let fits = buffer_fits::<G>(buffer.places.len());
     match (board.stage, event) {
         (_, Event::Step(_)) if !fits => Err(Reason::UnfitLength.at(board.next)),
         (Stage::Gathering, Event::Post(quote)) => board.post(quote),

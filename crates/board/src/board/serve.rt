@@ -109,7 +109,7 @@ pub fn honest_step<G: Group, P: Plan, S: Source>(
     let words = Clearing { places: words };
     let buffer = Clearing { places: buffer };
     let next = board.next;
-    if words.places.len() != 6 || !buffer_fits(setup.group, buffer.places.len()) {
+    if words.places.len() != 6 || !buffer_fits::<G>(buffer.places.len()) {
         return Err(Reason::UnfitLength.at(next));
     }
     let Some(on) = board.next_comparator(setup.plan) else {

@@ -95,7 +95,6 @@ fn serve_steps<G: Group, P: Plan, S: Source>(
 // Whether the lent lists fit a turn: an entry for each wire, a place and six words for each comparator, and the
 // posting buffer.
 fn lengths_fit<G: Group, P: Plan>(
-    group: &G,
     plan: &P,
     permutation: usize,
     places: usize,
@@ -105,10 +104,7 @@ fn lengths_fit<G: Group, P: Plan>(
     ensures { result ≡ both (permutation == P.Plan.width plan.now) (both (places == length (P.Plan.listing plan.now)) (both (words == 6 * length (P.Plan.listing plan.now)) (buffer_fits G.Group.operations bytes))) }
 {
     let count = plan.count();
-    permutation == plan.wires()
-        && places == count
-        && words == 6 * count
-        && buffer_fits(group, bytes)
+    permutation == plan.wires() && places == count && words == 6 * count && buffer_fits::<G>(bytes)
 }
 
 // Whether a turn is at its comparator 0, on as many wires as the plan has.
@@ -145,21 +141,14 @@ pub fn serve<G: Group, P: Plan, S: Source>(
     ensures words_cleared { words.new ≡ zeros 0 words.old }
     ensures buffer_cleared { buffer.new ≡ zeros 0 buffer.old }
 {
-    let Setup { group, plan, .. } = *setup;
+    let plan = setup.plan;
     let settings = Clearing { places: settings };
     let words = Clearing { places: words };
     let buffer = Clearing { places: buffer };
     let next = board.next;
     let places = settings.places.len();
     let bytes = buffer.places.len();
-    if !lengths_fit(
-        group,
-        plan,
-        permutation.len(),
-        places,
-        words.places.len(),
-        bytes,
-    ) {
+    if !lengths_fit::<G, P>(plan, permutation.len(), places, words.places.len(), bytes) {
         return Err(Reason::UnfitLength.at(next));
     }
     if !is_at_start(board, plan.wires()) {

@@ -72,7 +72,7 @@ fn draw_both<G: Group, S: Source>(
         (λ w. (w.equivalence ≡ word_over G.Group.operations (S.Source.words challenger.now.source.now) (comparison_meaning G.Group.point comparison) (commitment_points G.Group.point commitments.equivalence) (first + offset))
         × (w.disjunction ≡ word_over G.Group.operations (S.Source.words challenger.now.source.now) (comparison_meaning G.Group.point comparison) (commitment_points G.Group.point commitments.disjunction) (first + 2 + offset))) result }
 {
-    if !buffer_fits(challenger.group, buffer.len()) {
+    if !buffer_fits::<G>(buffer.len()) {
         return Err(Reason::UnfitLength.at(challenger.place));
     }
     if !challenger.reaches(first) {
