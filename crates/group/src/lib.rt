@@ -43,7 +43,8 @@ pub trait Exponent: Copy + PartialEq {
     fn read(posted: Self::Posted) -> Option<Self>
         ensures { MatchOption result (exponents.order ≤ number posted) (λ e. value e ≡ number posted) };
 
-    // Whether two posted numbers are the same, fit or not.
+    // Whether two posted numbers are the same, fit or not. It is no `==`, which would ask one of every card's numbers, for
+    // the one call that compares them.
     fn same_posted(a: Self::Posted, b: Self::Posted) -> bool
         ensures { result ≡ (number a == number b) };
 
