@@ -24,7 +24,8 @@ pub struct Challenger<'a, G, S> {
 }
 
 // What a challenge is drawn over beside the comparison: no commitment for a z, one for the
-// equivalence proof's challenge, two for the disjunctive proof's.
+// equivalence proof's challenge, two for the disjunctive proof's. It is no slice, which could hold more of them than the
+// posting buffer has room for.
 #[derive(Clone, Copy)]
 pub enum Commitments<E> {
     None,
