@@ -23,7 +23,7 @@ impl fmt::Display for Answer {
     fn fmt<W: fmt::Write>(&self, f: &mut fmt::Formatter<W>) -> fmt::Result {
         write!(f, "settings")?;
         for setting in self.settings.as_slice() {
-            let number = setting.number();
+            let number = u8::from(*setting);
             write!(f, " {number}")?;
         }
         write!(f, " brings")?;

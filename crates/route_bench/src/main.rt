@@ -41,7 +41,7 @@ fn routed<P: Plan>(plan: &P, turn: usize, mut sum: usize) -> usize {
     let mut settings = [Setting::Straight; 321];
     if plan.route(&permutation, &mut settings).is_ok() {
         for setting in &settings {
-            sum = mixed(sum, usize::from(setting.number()));
+            sum = mixed(sum, usize::from(u8::from(*setting)));
         }
     }
     sum
