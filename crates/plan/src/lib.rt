@@ -10,7 +10,7 @@ use clearing::Zero;
 use refusal::{Reason, Refusal};
 
 // How a comparator is set: its two items keep their wires, or change places.
-#[derive(Clone, Copy)]
+#[derive(Clone, Copy, PartialEq, Eq)]
 pub enum Setting {
     Straight,
     Swapped,
