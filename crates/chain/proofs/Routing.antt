@@ -1,8 +1,8 @@
 -- The loops of the chain: finding a comparator, and setting the rows.
-use Rattle.std.proofs.Common.{◌≡◌, ℕ, suc, ◌+◌, ◌-◌, ◌<◌, ◌≤◌, List, [], ◌++◌, map, length, Some, None, sym, refl, ap, ◌∙◌, subst, arith}
+use Rattle.std.proofs.Common.{◌≡◌, ℕ, suc, ◌+◌, ◌-◌, ◌<◌, ◌≤◌, List, [], ◌++◌, map, length, take, Some, None, sym, refl, ap, ◌∙◌, subst, arith}
 use Rattle.std.specs.List.{range_with_len}
 use Rattle.std.specs.Option.{option_map}
-use Rattle.std.proofs.lemmas.List.{length-append, append_assoc, append-nil}
+use Rattle.std.proofs.lemmas.List.{length-append, append_assoc, append-nil, get_or-take}
 use Rattle.std.proofs.lemmas.List.FromFn.{length-map-range_with_len}
 use Rattle.plan.specs.declared.Setting.{Setting}
 use Rattle.plan.specs.Plans.{on, at, nth, source, Permutation, Tabled, Brings}
@@ -10,7 +10,7 @@ use Rattle.plan.proofs.Running.{brings_from}
 use Rattle.plan.proofs.Places.{nth_left, nth_right, nth_map, nth_counting}
 use Rattle.chain.specs.Listing.{chain_from, chain, Fits}
 use Rattle.chain.specs.Stages.{row_setting, Permutes, BringsFrom}
-use Rattle.chain.specs.Rows.{settled, permutes_rest, chain_more, chain_lawful}
+use Rattle.chain.specs.Rows.{settled, permutes_rest, permutes_of, chain_more, chain_lawful}
 
 chain_row : (j m : ℕ) → chain_from j (suc m) ≡ map (on j) (range_with_len (j + 1) m) ++ chain_from (j + 1) m
 unfolding chain_from
@@ -87,10 +87,19 @@ goes_more j n p q o out ext h s e f g ss k x l =
 pub goes_all : (j n : ℕ) (p o : ℕ → ℕ) (out : List Setting) → n ≤ j → Goes j n p out o → BringsFrom 0 n out o
 goes_all j n p o out h g x z l = ap (λ ss. source (chain n) ss x) (sym (append-nil out)) ∙ g [] (λ y hy ly. absurd (omega arith)) x (omega arith)
 
+-- the entries that count, by the whole table that they stand in
+pub shown_permutes : (n : ℕ) (p es is t : List ℕ) → Tabled n p es is → t ≡ take n es → length t ≡ n → Permutes 0 (length t) (at t)
+shown_permutes n p es is t v e l =
+    subst (λ (z : ℕ). Permutes 0 z (at t)) (sym l)
+    (permutes_like 0 n (at p) (at t) (λ x h. ap (λ z. at z x) e ∙ get_or-take n es x 0 h ∙ v.same x h) (permutes_of n p v.permutation))
+
 -- the whole route
-pub routed : (n w : ℕ) (p es is : List ℕ) (ss : List Setting) → w ≡ n → Fits n → Tabled w p es is → length ss ≡ length (chain n) → BringsFrom 0 w ss (at es) →
-    Permutation n p × Brings n (chain n) ss p
-routed n w p es is ss e f t l b =
-    let v : Permutation n p = subst (λ (z : ℕ). Permutation z p) e t.permutation in
-    let b' : BringsFrom 0 n ss (at es) = subst (λ (z : ℕ). BringsFrom 0 z ss (at es)) e b in
-    (v, brings_from n (chain n) ss p (chain_lawful n f).within l v.long (λ x h. b' x (omega arith) (omega arith) ∙ t.same x (omega arith)))
+pub routed : (n w : ℕ) (p es is t : List ℕ) (ss : List Setting) → w ≡ n → Fits n → Tabled w p es is → t ≡ take w es → length t ≡ w → length ss ≡ length (chain n) →
+    BringsFrom 0 (length t) ss (at t) → Permutation n p × Brings n (chain n) ss p
+routed n w p es is t ss e f v g m l b =
+    let v' : Permutation n p = subst (λ (z : ℕ). Permutation z p) e v.permutation in
+    let b' : BringsFrom 0 n ss (at t) = subst (λ (z : ℕ). BringsFrom 0 z ss (at t)) (m ∙ e) b in (
+      v',
+      brings_from n (chain n) ss p (chain_lawful n f).within l v'.long
+          (λ x h. b' x (omega arith) (omega arith) ∙ ap (λ z. at z x) g ∙ get_or-take w es x 0 (omega arith) ∙ v.same x (omega arith)),
+    )

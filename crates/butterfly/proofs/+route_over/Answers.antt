@@ -1,124 +1,118 @@
-use Rattle.std.proofs.Common.{◌-◌, [], length, sym, refl, ap, ◌∙◌, arith}
-use Rattle.std.proofs.lemmas.List.FromFn.{length-map-range_with_len}
+use Rattle.std.proofs.Common.{◌≡◌, ◌-◌, ◌*◌, ◌^◌, ◌<◌, ◌++◌, take, ap, ◌∙◌, ap₂, arith}
+use Rattle.std.proofs.lemmas.List.{length-take-le}
 use Rattle.plan.specs.Plans.{at}
-use Rattle.butterfly.specs.Halves.{sides, half_of, layer, network}
+use Rattle.butterfly.specs.Halves.{sides, layer}
 use Rattle.butterfly.specs.Halving.{half_inverse}
-use Rattle.butterfly.specs.Network.{joined_settings, length_joined}
-use Rattle.butterfly.proofs.Finding.{network_none, network_step}
-use Rattle.butterfly.proofs.Writing.{written_none, four_parts}
-use Rattle.butterfly.proofs.Routing.{parts, inverse_pairs, inverse_like, halved_like, sends, sends_none}
+use Rattle.butterfly.proofs.Routing.{parts, coloured_part, halved_like, inverse_like, sends, sends_none}
 use Rattle.butterfly.proofs.+route_over.Goals as goal
 
-pub returns-then-levels-eq0 : goal.returns-then-levels-eq0
-returns-then-levels-eq0 t c =
-    record {
-      route = [];
-      count = sym (ap length (network_none c.args.levels c.if-levels-eq0.true));
-      sent = sends_none c.args.levels [] (at c.args.entries.now) (at c.args.inverse.now) c.if-levels-eq0.true c.requires.inverse;
-      stands = written_none c.args.settings.now c.args.start;
-    }
+pub returns-in_default : goal.returns-in_default
+returns-in_default t c = sends_none c.args.levels.count c.args.settings.now (at c.args.entries.now) (at c.args.inverse.now) c.in_default.ensures c.requires.inverses
 
-pub halves_by_end-ends-requires : goal.halves_by_end-ends-requires
-halves_by_end-ends-requires t c =
-    let f = parts c.args.levels c.width-pairs.result c.size-inner.result (omega arith) c.requires.few c.width-pairs.ensures.value c.size-inner.ensures.value in
-    let f0 = f.0 in
-    let f1 = f.1 in
-    let f2 = f.2 in
-    let v = inverse_pairs c.args.levels c.width-pairs.result (at c.args.entries.now) (at c.args.inverse.now) (omega arith) c.width-pairs.ensures.value c.requires.inverse in
-    record { narrow = f.1; inverse = v }
+pub invariant_of-pairs : goal.invariant_of-pairs
+invariant_of-pairs t c =
+    let h = c.in-Some.half in
+    let m = c.wires-count.result in
+    let p = at c.args.entries.now in
+    let q = at c.args.inverse.now in
+    let f = parts c.args.levels.count h.count m c.comparators-inner.result p q c.in-Some.ensures c.args.levels.few c.wires-count.ensures.value c.comparators-inner.ensures.value c.requires.inverses in
+    record { few = f.few; entries_long = c.requires.entries ∙ f.wires; inverse_long = c.requires.inverse ∙ f.wires; inverses = f.inverses }
 
-pub halves_by_start-starts-requires : goal.halves_by_start-starts-requires
-halves_by_start-starts-requires t c =
-    let f = parts c.args.levels c.width-pairs.result c.size-inner.result (omega arith) c.requires.few c.width-pairs.ensures.value c.size-inner.ensures.value in
-    let f0 = f.0 in
-    let f1 = f.1 in
-    let f2 = f.2 in
-    let v = inverse_pairs c.args.levels c.width-pairs.result (at c.args.entries.now) (at c.args.inverse.now) (omega arith) c.width-pairs.ensures.value c.requires.inverse in
-    record { narrow = f.1; below = v.fro }
+pub split_at_mut-first-requires : goal.split_at_mut-first-requires
+split_at_mut-first-requires t c =
+    let h = c.in-Some.half in
+    let m = c.wires-count.result in
+    let p = at c.args.entries.now in
+    let q = at c.args.inverse.now in
+    let f = parts c.args.levels.count h.count m c.comparators-inner.result p q c.in-Some.ensures c.args.levels.few c.wires-count.ensures.value c.comparators-inner.ensures.value c.requires.inverses in
+    omega arith
+
+pub split_at_mut-even-requires : goal.split_at_mut-even-requires
+split_at_mut-even-requires t c =
+    let h = c.in-Some.half in
+    let m = c.wires-count.result in
+    let p = at c.args.entries.now in
+    let q = at c.args.inverse.now in
+    let f = parts c.args.levels.count h.count m c.comparators-inner.result p q c.in-Some.ensures c.args.levels.few c.wires-count.ensures.value c.comparators-inner.ensures.value c.requires.inverses in
+    omega arith
+
+pub split_at_mut-odd-requires : goal.split_at_mut-odd-requires
+split_at_mut-odd-requires t c =
+    let h = c.in-Some.half in
+    let m = c.wires-count.result in
+    let p = at c.args.entries.now in
+    let q = at c.args.inverse.now in
+    let f = parts c.args.levels.count h.count m c.comparators-inner.result p q c.in-Some.ensures c.args.levels.few c.wires-count.ensures.value c.comparators-inner.ensures.value c.requires.inverses in
+    omega arith
 
 pub set_layer-requires : goal.set_layer-requires
 set_layer-requires t c =
-    let f = parts c.args.levels c.width-pairs.result c.size-inner.result (omega arith) c.requires.few c.width-pairs.ensures.value c.size-inner.ensures.value in
-    let f0 = f.0 in
-    let f1 = f.1 in
-    let f2 = f.2 in
-    record { pairs = omega arith; places = omega arith }
-
-pub halve-requires : goal.halve-requires
-halve-requires t c =
-    let f = parts c.args.levels c.width-pairs.result c.size-inner.result (omega arith) c.requires.few c.width-pairs.ensures.value c.size-inner.ensures.value in
-    let f0 = f.0 in
-    let f1 = f.1 in
-    let f2 = f.2 in
-    f.1
-
-pub halve-requires-2 : goal.halve-requires-2
-halve-requires-2 t c =
-    let f = parts c.args.levels c.width-pairs.result c.size-inner.result (omega arith) c.requires.few c.width-pairs.ensures.value c.size-inner.ensures.value in
-    let f0 = f.0 in
-    let f1 = f.1 in
-    let f2 = f.2 in
-    f.1
-
-pub halve-requires-3 : goal.halve-requires-3
-halve-requires-3 t c =
-    let f = parts c.args.levels c.width-pairs.result c.size-inner.result (omega arith) c.requires.few c.width-pairs.ensures.value c.size-inner.ensures.value in
-    let f0 = f.0 in
-    let f1 = f.1 in
-    let f2 = f.2 in
-    f.1
-
-pub halve-requires-4 : goal.halve-requires-4
-halve-requires-4 t c =
-    let f = parts c.args.levels c.width-pairs.result c.size-inner.result (omega arith) c.requires.few c.width-pairs.ensures.value c.size-inner.ensures.value in
-    let f0 = f.0 in
-    let f1 = f.1 in
-    let f2 = f.2 in
-    f.1
+    let h = c.in-Some.half in
+    let m = c.wires-count.result in
+    let p = at c.args.entries.now in
+    let q = at c.args.inverse.now in
+    let f = parts c.args.levels.count h.count m c.comparators-inner.result p q c.in-Some.ensures c.args.levels.few c.wires-count.ensures.value c.comparators-inner.ensures.value c.requires.inverses in
+    let n = length-take-le (2 * m) c.halves_by_start-starts.result (omega arith) in
+    record { few = omega arith; halves = omega arith }
 
 pub route_over-requires : goal.route_over-requires
 route_over-requires t c =
-    let f = parts c.args.levels c.width-pairs.result c.size-inner.result (omega arith) c.requires.few c.width-pairs.ensures.value c.size-inner.ensures.value in
-    let f0 = f.0 in
-    let f1 = f.1 in
-    let f2 = f.2 in
-    let v = inverse_pairs c.args.levels c.width-pairs.result (at c.args.entries.now) (at c.args.inverse.now) (omega arith) c.width-pairs.ensures.value c.requires.inverse in
-    let hv = halved_like c.width-pairs.result (at c.args.entries.now) (at c.args.inverse.now) (sides c.halves_by_end-ends.result) (sides c.halves_by_start-starts.result) v c.halves_by_end-ends.ensures c.halves_by_start-starts.ensures in
-    (omega arith, (omega arith, (inverse_like c.width-pairs.result _ (half_of (at c.args.entries.now) (sides c.halves_by_end-ends.result) 0) (half_of (at c.args.inverse.now) (sides c.halves_by_start-starts.result) 0) _ _ c.width-pairs.ensures.value c.halve.ensures c.halve-2.ensures (half_inverse c.width-pairs.result _ _ _ _ hv 0 (omega arith)), omega arith)))
+    let h = c.in-Some.half in
+    let m = c.wires-count.result in
+    let p = at c.args.entries.now in
+    let q = at c.args.inverse.now in
+    let f = parts c.args.levels.count h.count m c.comparators-inner.result p q c.in-Some.ensures c.args.levels.few c.wires-count.ensures.value c.comparators-inner.ensures.value c.requires.inverses in
+    let e = c.halves_by_end-ends.result in
+    let k = coloured_part m p q e f.some f.inverses c.halves_by_end-ends.ensures in
+    let v = halved_like m p q (sides (take (2 * m) e)) c.halves_by_start-starts.result f.inverses k c.halves_by_start-starts.ensures in
+    let w = half_inverse m p q _ _ v 0 (omega arith) in
+    let d : c.args.levels.count ≡ t = c.decreases in
+    let b : h.count < t = omega (arith, c.in-Some.ensures.0, c.in-Some.ensures.1) in (
+      b,
+      (omega arith, (omega arith, (inverse_like m (2 ^ h.count) _ _ _ _ c.wires-count.ensures.value (λ i l. c.halve.ensures.half i (omega arith)) (λ i l. c.halve-2.ensures.half i (omega arith)) w, omega arith))),
+    )
 
 pub route_over-requires-2 : goal.route_over-requires-2
 route_over-requires-2 t c =
-    let f = parts c.args.levels c.width-pairs.result c.size-inner.result (omega arith) c.requires.few c.width-pairs.ensures.value c.size-inner.ensures.value in
-    let f0 = f.0 in
-    let f1 = f.1 in
-    let f2 = f.2 in
-    let v = inverse_pairs c.args.levels c.width-pairs.result (at c.args.entries.now) (at c.args.inverse.now) (omega arith) c.width-pairs.ensures.value c.requires.inverse in
-    let hv = halved_like c.width-pairs.result (at c.args.entries.now) (at c.args.inverse.now) (sides c.halves_by_end-ends.result) (sides c.halves_by_start-starts.result) v c.halves_by_end-ends.ensures c.halves_by_start-starts.ensures in
-    (omega arith, (omega arith, (inverse_like c.width-pairs.result _ (half_of (at c.args.entries.now) (sides c.halves_by_end-ends.result) 1) (half_of (at c.args.inverse.now) (sides c.halves_by_start-starts.result) 1) _ _ c.width-pairs.ensures.value c.halve-3.ensures c.halve-4.ensures (half_inverse c.width-pairs.result _ _ _ _ hv 1 (omega arith)), omega arith)))
+    let h = c.in-Some.half in
+    let m = c.wires-count.result in
+    let p = at c.args.entries.now in
+    let q = at c.args.inverse.now in
+    let f = parts c.args.levels.count h.count m c.comparators-inner.result p q c.in-Some.ensures c.args.levels.few c.wires-count.ensures.value c.comparators-inner.ensures.value c.requires.inverses in
+    let e = c.halves_by_end-ends.result in
+    let k = coloured_part m p q e f.some f.inverses c.halves_by_end-ends.ensures in
+    let v = halved_like m p q (sides (take (2 * m) e)) c.halves_by_start-starts.result f.inverses k c.halves_by_start-starts.ensures in
+    let w = half_inverse m p q _ _ v 1 (omega arith) in
+    let d : c.args.levels.count ≡ t = c.decreases in
+    let b : h.count < t = omega (arith, c.in-Some.ensures.0, c.in-Some.ensures.1) in (
+      b,
+      (omega arith, (omega arith, (inverse_like m (2 ^ h.count) _ _ _ _ c.wires-count.ensures.value (λ i l. c.halve-3.ensures.half i (omega arith)) (λ i l. c.halve-4.ensures.half i (omega arith)) w, omega arith))),
+    )
 
 pub set_layer-requires-2 : goal.set_layer-requires-2
 set_layer-requires-2 t c =
-    let f = parts c.args.levels c.width-pairs.result c.size-inner.result (omega arith) c.requires.few c.width-pairs.ensures.value c.size-inner.ensures.value in
-    let f0 = f.0 in
-    let f1 = f.1 in
-    let f2 = f.2 in
-    record { pairs = omega arith; places = omega arith }
+    let h = c.in-Some.half in
+    let m = c.wires-count.result in
+    let p = at c.args.entries.now in
+    let q = at c.args.inverse.now in
+    let f = parts c.args.levels.count h.count m c.comparators-inner.result p q c.in-Some.ensures c.args.levels.few c.wires-count.ensures.value c.comparators-inner.ensures.value c.requires.inverses in
+    let n = length-take-le (2 * m) c.halves_by_end-ends.result (omega arith) in
+    record { few = omega arith; halves = omega arith }
 
 pub returns : goal.returns
 returns t c =
-    let f = parts c.args.levels c.width-pairs.result c.size-inner.result (omega arith) c.requires.few c.width-pairs.ensures.value c.size-inner.ensures.value in
-    let f0 = f.0 in
-    let f1 = f.1 in
-    let f2 = f.2 in
-    let v = inverse_pairs c.args.levels c.width-pairs.result (at c.args.entries.now) (at c.args.inverse.now) (omega arith) c.width-pairs.ensures.value c.requires.inverse in
-    let hv = halved_like c.width-pairs.result (at c.args.entries.now) (at c.args.inverse.now) (sides c.halves_by_end-ends.result) (sides c.halves_by_start-starts.result) v c.halves_by_end-ends.ensures c.halves_by_start-starts.ensures in
-    let e = c.route_over.ensures in
-    let o = c.route_over-2.ensures in
-    let l = length_joined (network (c.args.levels - 1)) (sides c.halves_by_end-ends.result) (sides c.halves_by_start-starts.result) e.route o.route c.width-pairs.result e.count o.count in
-    record {
-      route = joined_settings (sides c.halves_by_end-ends.result) (sides c.halves_by_start-starts.result) e.route o.route c.width-pairs.result;
-      count = l ∙ sym (ap length (network_step c.args.levels c.width-pairs.result (omega arith) c.width-pairs.ensures.value));
-      sent = sends c.args.levels c.width-pairs.result (at c.args.entries.now) (at c.args.inverse.now) (sides c.halves_by_end-ends.result) (sides c.halves_by_start-starts.result) _ _ e.route o.route _ (omega arith) c.width-pairs.ensures.value hv c.halves_by_end-ends.ensures.first e.count o.count c.halve.ensures c.halve-3.ensures e.sent o.sent refl;
-      stands = four_parts c.args.settings.now _ _ _ _ (layer (sides c.halves_by_start-starts.result) 0 c.width-pairs.result) e.route o.route (layer (sides c.halves_by_end-ends.result) 1 (c.width-pairs.result - 1)) c.args.start c.width-pairs.result c.size-inner.result (length-map-range_with_len _ 0 c.width-pairs.result) (e.count ∙ sym c.size-inner.ensures.value) (o.count ∙ sym c.size-inner.ensures.value) (omega arith)
-          c.set_layer.ensures e.stands o.stands c.set_layer-2.ensures;
-    }
+    let h = c.in-Some.half in
+    let m = c.wires-count.result in
+    let p = at c.args.entries.now in
+    let q = at c.args.inverse.now in
+    let f = parts c.args.levels.count h.count m c.comparators-inner.result p q c.in-Some.ensures c.args.levels.few c.wires-count.ensures.value c.comparators-inner.ensures.value c.requires.inverses in
+    let e = c.halves_by_end-ends.result in
+    let k = coloured_part m p q e f.some f.inverses c.halves_by_end-ends.ensures in
+    let v = halved_like m p q (sides (take (2 * m) e)) c.halves_by_start-starts.result f.inverses k c.halves_by_start-starts.ensures in
+    let starts = sides (take (2 * m) c.halves_by_start-starts.result) in
+    let ends = sides (take (2 * m) e) in
+    let first : c.set_layer.new.settings ≡ layer starts 0 m = c.set_layer.ensures ∙ ap (layer starts 0) c.split_at_mut-first.ensures.front_len in
+    let last : c.set_layer-2.new.settings ≡ layer ends 1 (m - 1) = c.set_layer-2.ensures ∙ ap (layer ends 1) (omega arith) in
+    sends c.args.levels.count h.count m p q ends starts (at c.halve.new.table) (at c.halve-3.new.table) c.route_over.new.settings c.route_over-2.new.settings _ c.in-Some.ensures.0 c.in-Some.ensures.1
+    c.wires-count.ensures.value v k.first (omega arith) (omega arith) (λ i l. c.halve.ensures.half i (omega arith)) (λ i l. c.halve-3.ensures.half i (omega arith))
+    c.route_over.ensures c.route_over-2.ensures (ap₂ (λ x y. x ++ (c.route_over.new.settings ++ (c.route_over-2.new.settings ++ y))) first last)
