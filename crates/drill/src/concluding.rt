@@ -50,7 +50,7 @@ pub fn conclude<X: Exponent>(samples: Samples<X>) -> Conclusion<X>
         second,
         third,
     } = samples;
-    if first.gamma.equals(second.gamma) && second.gamma.equals(third.gamma) {
+    if first.gamma == second.gamma && second.gamma == third.gamma {
         return Conclusion::Common(first.gamma);
     }
     Conclusion::Key(key_of(samples))

@@ -82,7 +82,7 @@ impl<X: Exponent> Secrets<X> {
     {
         let above = known.a.multiply(z).add(known.b);
         let below = self.private.multiply(z).add(X::from_word(1));
-        if below.equals(X::from_word(0)) {
+        if below == X::from_word(0) {
             return known.b;
         }
         above.multiply(below.invert())
