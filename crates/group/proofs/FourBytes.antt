@@ -1,5 +1,5 @@
 -- A number and its four bytes.
-use Rattle.std.proofs.Common.{◌≡◌, ℕ, ◌+◌, ◌*◌, ◌/◌, ◌%◌, ◌^◌, ◌<◌, List, [], ◌∷◌, length, get_or, ap, arith}
+use Rattle.std.proofs.Common.{◌≡◌, ℕ, ◌/◌, ◌%◌, ◌^◌, ◌<◌, get_or, ap, arith}
 use Rattle.group.specs.Codes.{four_bytes}
 
 -- a number of 32 bits has four bytes of its own

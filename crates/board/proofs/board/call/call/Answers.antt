@@ -1,5 +1,5 @@
-use Rattle.std.proofs.Common.{◌∙◌, length, sym, refl, subst, arith, leb-true, rules}
-use Rattle.board.proofs.Calling.{post_happens, close_happens, step_happens}
+use Rattle.std.proofs.Common.{◌∙◌, length, sym, refl, subst, leb-true, rules}
+use Rattle.board.proofs.Calling.{post_happens, step_happens}
 use Rattle.board.specs.Calls.{terms, event_meaning, Happens}
 use Rattle.board.specs.States.{view, state_map}
 use Rattle.board.specs.declared.events.Event.{Event}
@@ -17,19 +17,6 @@ returns-in-Gathering-Post g c =
     record {
       happens = subst done (sym c.in-Gathering-Post.is-1) (post_happens T point (view b) (view c.post.new.self) bytes c.in-Gathering-Post.quote c.post.result c.in-Gathering-Post.is-0 c.post.ensures.outcome);
       key = c.post.ensures.key;
-      cleared = search rules;
-    }
-
-pub returns-in-Gathering-Close : goal.returns-in-Gathering-Close
-returns-in-Gathering-Close g c =
-    let point = g.G.Group.point in
-    let b = c.args.board.now in
-    let T = terms g.G.Group.operations g.G.Exponent.Exponent.exponents (g.S.Source.words c.args.setup.now.source.now) (point b.key) (g.P.Plan.listing c.args.setup.now.plan.now) in
-    let bytes = length c.args.buffer.now in
-    let done = λ (e : Event g.row.G-Element.Denot _). Happens T (state_map (meaning point) (view b)) (event_meaning point g.G.Exponent.Exponent.number e) bytes c.close.result (state_map (meaning point) (view c.close.new.self)) in
-    record {
-      happens = subst done (sym c.in-Gathering-Close.is-1) (close_happens T point (view b) (view c.close.new.self) bytes c.close.result c.in-Gathering-Close.is-0 c.close.ensures.outcome);
-      key = c.close.ensures.key;
       cleared = search rules;
     }
 

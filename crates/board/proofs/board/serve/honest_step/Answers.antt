@@ -1,39 +1,19 @@
-use Rattle.std.proofs.Common.{◌≡◌, ℕ, ◌+◌, ◌-◌, ◌*◌, ◌≤◌, ltb, length, Some, None, Option, sym, refl, ap, ◌∙◌, subst, ap₂, arith, rules, leb-true}
+use Rattle.std.proofs.Common.{◌≡◌, ◌+◌, ◌*◌, ◌≤◌, ltb, length, Some, None, Option, sym, refl, ap, ◌∙◌, subst, arith, rules, leb-true}
 use Rattle.elgamal.specs.Ciphertexts.{meaning}
 use Rattle.equivalence.specs.Judgement.{unless}
-use Rattle.posting.specs.Comparison.{pair_meaning}
 use Rattle.posting.specs.declared.comparison.Pair.{Pair}
-use Rattle.prover.specs.Secrets.{secrets_of}
 use Rattle.prover.specs.declared.states.Message.{Message}
-use Rattle.prover.specs.States.{Outcome, message_meaning, honest_message, Taken}
+use Rattle.prover.specs.States.{Outcome, message_meaning, Taken}
 use Rattle.refusal.specs.declared.Reason.{Reason}
 use Rattle.refusal.specs.declared.Reason.TheVariants.{BeyondReach}
 use Rattle.board.proofs.Serving.{next_is, next_map, outcome_more, made_at, made_more, judged_next, judged_prove, honest_judged}
 use Rattle.board.proofs.Stepping.{on_wires}
 use Rattle.board.specs.Calls.{terms, question, judge_call}
-use Rattle.board.specs.Rounds.{blank}
 use Rattle.board.specs.Serving.{HonestStep, honest_step, inputs_on, judge_honest, next_comparator}
 use Rattle.board.specs.Stages.{turning}
 use Rattle.board.specs.States.{view, state_map}
-use Rattle.board.specs.declared.board.Board.{Board}
 use Rattle.board.specs.declared.events.Event.TheVariants.{Step}
 use Rattle.board.proofs.board.serve.honest_step.Goals as goal
-
-pub returns-in_default : goal.returns-in_default
-returns-in_default g c =
-    let point = g.G.Group.point in
-    let b = c.args.board.now in
-    let T = terms g.G.Group.operations g.G.Exponent.Exponent.exponents (g.S.Source.words c.args.setup.now.source.now) (point b.key) (g.P.Plan.listing c.args.setup.now.plan.now) in
-    let s = state_map (meaning point) (view b) in
-    let room : 11 * g.G.Group.operations.width ≤ length c.args.buffer.now = leb-true _ _ (sym c.buffer_fits.ensures ∙ c.if-not-buffer_fits.false) in
-    let judged = judged_next T s (length c.args.words.now) (length c.args.buffer.now) None c.if-words-ne6.false room (next_map (meaning point) T.comparators (view b) ∙ sym c.in_default.ensures) in
-    record {
-      outcome = rw judged c.at-in_default.ensures;
-      taken = tt;
-      kept = refl;
-      words_cleared = search rules;
-      buffer_cleared = search rules;
-    }
 
 pub prove_on-requires : goal.prove_on-requires
 prove_on-requires g c =

@@ -1,4 +1,4 @@
-use Rattle.std.proofs.Common.{◌≡◌, ℕ, ◌-◌, ◌+◌, ◌*◌, eqb, length, IfOk, ap, ◌∙◌, subst, arith, rules}
+use Rattle.std.proofs.Common.{◌≡◌, ℕ, ◌-◌, ◌+◌, ◌*◌, eqb, length, IfOk, ap, ◌∙◌, subst}
 use Rattle.elgamal.specs.Ciphertexts.{meaning}
 use Rattle.equivalence.specs.Judgement.{unless}
 use Rattle.posting.specs.Comparison.{pair_meaning}

@@ -5,8 +5,6 @@ use Rattle.board.proofs.Stepping.{on_wires, inside, answer_ok, answer_err}
 use Rattle.board.specs.Calls.{terms, judge_step, question}
 use Rattle.board.specs.States.{view, state_map, stepped_state}
 use Rattle.board.specs.Steps.{comparison_at}
-use Rattle.board.specs.declared.board.Board.{Board}
-use Rattle.board.specs.declared.events.Taken.TheVariants.{Stepped}
 use Rattle.equivalence.specs.Judgement.{judge}
 use Rattle.plan.specs.Plans.{nth}
 use Rattle.posting.specs.Comparison.{pair_meaning, comparison_meaning}
@@ -31,6 +29,9 @@ comparison_on-comparison-requires g c =
     let here = next_is (g.P.Plan.listing c.args.setup.now.plan.now) (view c.args.board.now) c.in-Some.on (sym c.in-Some.ensures) in
     let on = on_wires _ _ _ _ plan.within (sym here.listed) in
     record { first = omega (arith, on.0, here.inside); second = here.inside }
+
+pub question_of-question-requires-clause-count : goal.question_of-question-requires-clause-count
+question_of-question-requires-clause-count g c = let plan = g.met.P.Plan.lawful c.args.setup.now.plan.now in omega (arith, plan.few, c.count-count.ensures)
 
 pub write-requires : goal.write-requires
 write-requires g c =

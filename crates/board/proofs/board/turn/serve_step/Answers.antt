@@ -1,38 +1,19 @@
-use Rattle.std.proofs.Common.{◌≡◌, ℕ, length, refl, ap, ◌∙◌, ap₂, arith}
+use Rattle.std.proofs.Common.{◌≡◌, ℕ, length, ap, ◌∙◌, arith}
 use Rattle.elgamal.specs.Ciphertexts.{meaning}
-use Rattle.posting.specs.Comparison.{pair_meaning}
-use Rattle.posting.specs.declared.comparison.Pair.{Pair}
 use Rattle.prover.proofs.Outcomes.{no_refusal as not_refused}
-use Rattle.prover.specs.Honest.{honest_outputs}
-use Rattle.prover.specs.Secrets.{secrets_of}
-use Rattle.prover.specs.States.{message_meaning, honest_message}
+use Rattle.prover.specs.States.{message_meaning}
 use Rattle.prover.specs.declared.states.Message.{Message}
 use Rattle.board.proofs.Meanings.{map_stepped}
-use Rattle.board.proofs.Serving.{inputs_meaning}
 use Rattle.board.specs.Calls.{terms}
-use Rattle.board.specs.Rounds.{blank}
 use Rattle.board.specs.Serving.{honest_step}
-use Rattle.board.specs.Stages.{turning}
 use Rattle.board.specs.States.{view, state_map, stepped_state}
-use Rattle.board.specs.declared.board.Board.{Board}
 use Rattle.board.proofs.board.turn.serve_step.Goals as goal
 
-pub prove_on-requires : goal.prove_on-requires
-prove_on-requires g c = record { first = c.requires.first; second = c.requires.second; turn = omega (arith, c.args.board.now.done, ap turning c.requires.stage) }
+pub write-requires-clause-few : goal.write-requires-clause-few
+write-requires-clause-few g c = let plan = g.met.P.Plan.lawful c.args.setup.now.plan.now in omega (arith, plan.few, c.count.ensures)
 
-pub write-requires : goal.write-requires
-write-requires g c =
-    let plan = g.met.P.Plan.lawful c.args.setup.now.plan.now in
-    record {
-      first = c.requires.first;
-      second = c.requires.second;
-      next = omega (arith, c.requires.next, c.count.ensures);
-      few = omega (arith, plan.few, c.count.ensures);
-      stage = c.requires.stage;
-    }
-
-pub returns : goal.returns
-returns g c =
+pub returns-clause-state : goal.returns-clause-state
+returns-clause-state g c =
     let point = g.G.Group.point in
     let number = g.G.Exponent.Exponent.number in
     let cs = g.P.Plan.listing c.args.setup.now.plan.now in
@@ -43,11 +24,7 @@ returns g c =
     let m = c.in_ok-outputs.field-0 in
     let o = m.outputs in
     let told = not_refused _ _ (λ x. message_meaning point number x ≡ honest_step T s on c.args.setting c.args.words) m c.in_ok-outputs.ensures.outcome in
-    record {
-      made = refl;
-      key = c.write.ensures.key;
-      state = ap (state_map (meaning point)) c.write.ensures.state
-          ∙ map_stepped (meaning point) c.count.result (view b) on.first on.second o.first o.second
-          ∙ ap (λ (n : ℕ). stepped_state n s on.first on.second (meaning point o.first) (meaning point o.second)) c.count.ensures
-          ∙ ap (λ (x : Message g.G.Group.Point ℕ). stepped_state (length cs) s on.first on.second x.outputs.first x.outputs.second) told.1;
-    }
+    ap (state_map (meaning point)) c.write.ensures.state
+    ∙ map_stepped (meaning point) c.count.result (view b) on.first on.second o.first o.second
+    ∙ ap (λ (n : ℕ). stepped_state n s on.first on.second (meaning point o.first) (meaning point o.second)) c.count.ensures
+    ∙ ap (λ (x : Message g.G.Group.Point ℕ). stepped_state (length cs) s on.first on.second x.outputs.first x.outputs.second) told.1
