@@ -9,7 +9,7 @@ use Rattle.butterfly.specs.declared.Half.{Half}
 use Rattle.butterfly.specs.declared.Half.TheVariants.{Even}
 use Rattle.butterfly.specs.Halves.{side, sides, other, network, doubled, Halved, half_of, Sends}
 use Rattle.butterfly.specs.Listing.{butterfly}
-use Rattle.butterfly.specs.Colours.{Matching, Coloured, Contracted, partner, first_half, assigned}
+use Rattle.butterfly.specs.Colours.{Coloured, Contracted, partner, first_half, assigned}
 use Rattle.butterfly.specs.Colouring.{assigned_step, contracted_all}
 use Rattle.butterfly.specs.Halving.{partner_is, halved}
 use Rattle.butterfly.specs.Network.{joined_settings, combined}
@@ -25,22 +25,6 @@ assign_more t j m c r h o l e f i =
 pub coloured_like : (m : ℕ) (t u c : ℕ → ℕ) → ((x : ℕ) → x < 2 * m → t x ≡ u x) → Coloured m t c → Coloured m u c
 coloured_like m t u c e k =
     record { first = k.first; neighbours = k.neighbours; partners = λ x h. ap (λ y. c x + c y) (sym (e x h)) ∙ k.partners x h }
-
-matching_like : (m : ℕ) (t u : ℕ → ℕ) → ((x : ℕ) → x < 2 * m → t x ≡ u x) → Matching m u → Matching m t
-matching_like m t u e k =
-    record {
-      within = λ x h. let a = e x h in let b = k.within x h in omega arith;
-      apart = λ x h f. k.apart x h (sym (e x h) ∙ f);
-      twice = λ x h. ap t (e x h) ∙ e (u x) (k.within x h) ∙ k.twice x h;
-    }
-
--- the partners' table, of which the first 2 * m entries count
-pub partners_match : (m : ℕ) (p q : ℕ → ℕ) (ts : List ℕ) → 2 * m ≤ length ts → ((x : ℕ) → x < 2 * m → at ts x ≡ partner p q x) → Inverse (2 * m) p q →
-    Matching (length (take (2 * m) ts) / 2) (at (take (2 * m) ts))
-partners_match m p q ts l e v =
-    let n = length-take-le (2 * m) ts l in
-    subst (λ (z : ℕ). Matching z (at (take (2 * m) ts))) (omega arith)
-    (matching_like m (at (take (2 * m) ts)) (partner p q) (λ x h. get_or-take (2 * m) ts x 0 h ∙ e x h) (partner_is m p q v))
 
 pub partners_coloured : (m : ℕ) (o : ℕ → ℕ) (ts us : List ℕ) (d : List Half) → m ≤ 32 → 2 * m ≤ length ts → ((x : ℕ) → x < 2 * m → at ts x ≡ o x) →
     length us ≡ length (take (2 * m) ts) → Contracted 0 (length (take (2 * m) ts) / 2) us (at (take (2 * m) ts)) →

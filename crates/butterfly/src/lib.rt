@@ -285,8 +285,7 @@ fn assign(table: &[u8]) -> [Half; 64]
 
 // The wire of a pair that is in a half.
 fn member_of(halves: &[Half], half: Half, i: usize) -> usize
-    requires few { i < 32 }
-    requires within { 2 * i < length halves.now }
+    requires { 2 * i < length halves.now }
     ensures { result ≡ member (sides halves.now) (side half) i }
 {
     if halves[2 * i] == half {
@@ -298,7 +297,6 @@ fn member_of(halves: &[Half], half: Half, i: usize) -> usize
 
 // Writes what the entries are on a half into a lent table, which spares a copy.
 fn halve(entries: &[u8], halves: &[Half], half: Half, table: &mut [u8])
-    requires few { length table.old ≤ 32 }
     requires entries { length entries.now ≡ 2 * length table.old }
     requires halves { length halves.now ≡ 2 * length table.old }
     ensures long { length entries.now ≡ 2 * length table.new }
@@ -311,8 +309,7 @@ fn halve(entries: &[u8], halves: &[Half], half: Half, table: &mut [u8])
 
 // Sets a layer of pairs, from pair `first` on.
 fn set_layer(settings: &mut [Setting], halves: &[Half], first: usize)
-    requires few { first + length settings.old ≤ 32 }
-    requires halves { 2 * (first + length settings.old) ≤ length halves.now }
+    requires { 2 * (first + length settings.old) ≤ length halves.now }
     ensures { settings.new ≡ layer (sides halves.now) first (length settings.old) }
 {
     for (i, setting) in settings.iter_mut().enumerate() {

@@ -10,7 +10,7 @@ use Rattle.plan.proofs.Running.{brings_from}
 use Rattle.plan.proofs.Places.{nth_left, nth_right, nth_map, nth_counting}
 use Rattle.chain.specs.Listing.{chain_from, chain, Fits}
 use Rattle.chain.specs.Stages.{row_setting, Permutes, BringsFrom}
-use Rattle.chain.specs.Rows.{settled, permutes_rest, permutes_of, chain_more, chain_lawful}
+use Rattle.chain.specs.Rows.{settled, permutes_rest, chain_more, chain_lawful}
 
 chain_row : (j m : ℕ) → chain_from j (suc m) ≡ map (on j) (range_with_len (j + 1) m) ++ chain_from (j + 1) m
 unfolding chain_from
@@ -66,9 +66,6 @@ permutes_more j n p q h s e =
     let r : Permutes (j + 1) n (settled j p) = subst (λ (z : ℕ). Permutes (j + 1) z (settled j p)) b (permutes_rest j m p s') in
     permutes_like (j + 1) n (settled j p) q e r
 
-pub goes_none : (n : ℕ) (p : ℕ → ℕ) → Goes 0 n p [] p
-goes_none n p ss k x h = let e : n - 0 ≡ n = omega arith in sym (ap (λ m. source (chain_from 0 m) ss x) e) ∙ k x (omega arith) h
-
 pub goes_more : (j n : ℕ) (p q o : ℕ → ℕ) (out ext : List Setting) → j < n → Permutes j n p → ((x : ℕ) → x < n → q x ≡ settled j p x) →
     ext ≡ out ++ map (row_setting (p j)) (range_with_len (j + 1) (n - 1 - j)) → Goes j n p out o → Goes (j + 1) n q ext o
 goes_more j n p q o out ext h s e f g ss k x l =
@@ -86,12 +83,6 @@ goes_more j n p q o out ext h s e f g ss k x l =
 
 pub goes_all : (j n : ℕ) (p o : ℕ → ℕ) (out : List Setting) → n ≤ j → Goes j n p out o → BringsFrom 0 n out o
 goes_all j n p o out h g x z l = ap (λ ss. source (chain n) ss x) (sym (append-nil out)) ∙ g [] (λ y hy ly. absurd (omega arith)) x (omega arith)
-
--- the entries that count, by the whole table that they stand in
-pub shown_permutes : (n : ℕ) (p es is t : List ℕ) → Tabled n p es is → t ≡ take n es → length t ≡ n → Permutes 0 (length t) (at t)
-shown_permutes n p es is t v e l =
-    subst (λ (z : ℕ). Permutes 0 z (at t)) (sym l)
-    (permutes_like 0 n (at p) (at t) (λ x h. ap (λ z. at z x) e ∙ get_or-take n es x 0 h ∙ v.same x h) (permutes_of n p v.permutation))
 
 -- the whole route
 pub routed : (n w : ℕ) (p es is t : List ℕ) (ss : List Setting) → w ≡ n → Fits n → Tabled w p es is → t ≡ take w es → length t ≡ w → length ss ≡ length (chain n) →

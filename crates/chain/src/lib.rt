@@ -40,12 +40,23 @@ impl Plan for Chain {
         self.width
     }
 
+    // How many pairs there are among the wires.
     fn count(&self) -> usize {
-        pairs_among(self.wires())
+        let wires = self.wires();
+        wires * (wires - 1) / 2
     }
 
+    // It is found from the row in which it stands.
     fn comparator(&self, k: usize) -> Option<Comparator> {
-        listed(self.wires(), k)
+        let mut left = k;
+        for first in 0..self.width {
+            let row = self.width - 1 - first;
+            if left < row {
+                return Some(between(first, first + 1 + left));
+            }
+            left -= row;
+        }
+        None
     }
 
     fn route(&self, permutation: &[usize], settings: &mut [Setting]) -> Result<(), Refusal> {
@@ -62,34 +73,10 @@ impl Plan for Chain {
     }
 }
 
-// How many pairs there are among so many wires.
-fn pairs_among(wires: usize) -> usize
-    requires { Fits wires }
-    ensures { result ≡ (wires * (wires - 1)) / 2 }
-{
-    wires * (wires - 1) / 2
-}
-
 fn between(first: usize, second: usize) -> Comparator
     ensures { result ≡ on first second }
 {
     Comparator { first, second }
-}
-
-// The k-th comparator, from the row in which it stands.
-fn listed(wires: usize, k: usize) -> Option<Comparator>
-    requires { wires ≤ 64 }
-    ensures { result ≡ nth (chain wires) k }
-{
-    let mut left = k;
-    for first in 0..wires {
-        let row = wires - 1 - first;
-        if left < row {
-            return Some(between(first, first + 1 + left));
-        }
-        left -= row;
-    }
-    None
 }
 
 // The setting of the comparator with wire k, where the item wanted stands on wire `from`.

@@ -45,16 +45,6 @@ split_at_mut-odd-requires t c =
     let f = parts c.args.levels.count h.count m c.comparators-inner.result p q c.in-Some.ensures c.args.levels.few c.wires-count.ensures.value c.comparators-inner.ensures.value c.requires.inverses in
     omega arith
 
-pub set_layer-requires : goal.set_layer-requires
-set_layer-requires t c =
-    let h = c.in-Some.half in
-    let m = c.wires-count.result in
-    let p = at c.args.entries.now in
-    let q = at c.args.inverse.now in
-    let f = parts c.args.levels.count h.count m c.comparators-inner.result p q c.in-Some.ensures c.args.levels.few c.wires-count.ensures.value c.comparators-inner.ensures.value c.requires.inverses in
-    let n = length-take-le (2 * m) c.halves_by_start-starts.result (omega arith) in
-    record { few = omega arith; halves = omega arith }
-
 pub route_over-requires : goal.route_over-requires
 route_over-requires t c =
     let h = c.in-Some.half in
@@ -97,7 +87,7 @@ set_layer-requires-2 t c =
     let q = at c.args.inverse.now in
     let f = parts c.args.levels.count h.count m c.comparators-inner.result p q c.in-Some.ensures c.args.levels.few c.wires-count.ensures.value c.comparators-inner.ensures.value c.requires.inverses in
     let n = length-take-le (2 * m) c.halves_by_end-ends.result (omega arith) in
-    record { few = omega arith; halves = omega arith }
+    omega arith
 
 pub returns : goal.returns
 returns t c =

@@ -1,14 +1,8 @@
-use Rattle.std.proofs.Common.{◌+◌, ◌*◌, arith}
-use Rattle.std.proofs.lemmas.List.Edits.{fill_by_more}
+use Rattle.std.proofs.Common.{◌*◌, arith}
 use Rattle.plan.specs.declared.Setting.TheVariants.{Straight}
 use Rattle.plan.proofs.Places.{filled}
 use Rattle.butterfly.specs.Halves.{sides, setting_for}
 use Rattle.butterfly.proofs.set_layer.Goals as goal
-
-pub loop-i-preserved : goal.loop-i-preserved
-loop-i-preserved c =
-    rw c.setting.ensures
-    (fill_by_more (λ k. setting_for (sides c.args.halves.now (2 * (c.args.first + k)))) c.loop-i.settings c.loop-i.i Straight (omega arith) c.loop-i.invariant)
 
 pub returns : goal.returns
 returns c =

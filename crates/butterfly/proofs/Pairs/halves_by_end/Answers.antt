@@ -1,13 +1,8 @@
 use Rattle.std.proofs.Common.{arith}
 use Rattle.plan.specs.Plans.{at}
 use Rattle.butterfly.specs.Colours.{partner}
-use Rattle.butterfly.proofs.Routing.{partners_match, partners_coloured}
+use Rattle.butterfly.proofs.Routing.{partners_coloured}
 use Rattle.butterfly.proofs.Pairs.halves_by_end.Goals as goal
-
-pub contract-requires : goal.contract-requires
-contract-requires c =
-    let s = c.args.self in
-    partners_match s.count (at s.entries.now) (at s.inverse.now) c.partners-partners.result (omega arith) c.partners-partners.ensures s.inverses
 
 pub returns : goal.returns
 returns c =
