@@ -20,6 +20,7 @@ pub struct Reencryption<X> {
     pub r2: X,
 }
 
+// What the drill finds. It is no Result: either finding answers the drill, which may also refuse.
 #[derive(Clone, Copy)]
 pub enum Finding<X> {
     Key(X),

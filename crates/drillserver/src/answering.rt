@@ -65,47 +65,13 @@ fn simulate<G: Group>(
     }
 }
 
-// The place that an equivalence witness draws for: the first for all, where the fault is that.
-fn place_of(fault: Fault, j: u64) -> u64
-    ensures { result ≡ draw_place fault j }
-{
-    match fault {
-        Fault::EqualDraws => 0,
-        _ => j,
-    }
-}
-
-// The number that an equivalence witness posts for its z: the order for the last, where the fault is that.
-fn post_z<X: Exponent>(fault: Fault, j: u64, z: X) -> X::Posted
-    ensures { X.Exponent.number result ≡ posted_z X.Exponent.exponents fault j (X.Exponent.value z) }
-{
-    match fault {
-        Fault::UnfitNumber if j == 2 => X::order(),
-        _ => z.post(),
-    }
-}
-
 // The challenges of a word: of it and of the next.
-fn next_challenges_of<X: Exponent>(word: u64) -> Challenges
+fn challenges_of<X: Exponent>(word: u64) -> Challenges
     ensures { result ≡ next_challenges X.Exponent.exponents word }
 {
     Challenges {
         first: X::challenge(word),
         second: X::challenge(word_of(word, 1)),
-    }
-}
-
-// The challenges of both answers of a disjunctive witness.
-fn challenges_of<X: Exponent>(fault: Fault, word: u64) -> Challenges
-    ensures { result ≡ made_challenges X.Exponent.exponents fault word }
-{
-    let challenges = next_challenges_of::<X>(word);
-    match fault {
-        Fault::EqualChallenges => Challenges {
-            second: challenges.first,
-            ..challenges
-        },
-        _ => challenges,
     }
 }
 
@@ -119,13 +85,51 @@ fn parts_of(challenges: Challenges, c: u64) -> Challenges
     }
 }
 
-// The branch that is proved: that of the output made from the first input.
-fn branch_of(outputs: Outputs) -> Setting
-    ensures { result ≡ proved_branch outputs }
-{
-    match outputs {
-        Outputs::Swapped => Setting::Swapped,
-        _ => Setting::Straight,
+impl Fault {
+    // The place that an equivalence witness draws for: the first for all, where the fault is that.
+    fn place(self, j: u64) -> u64
+        ensures { result ≡ draw_place self j }
+    {
+        match self {
+            Fault::EqualDraws => 0,
+            _ => j,
+        }
+    }
+
+    // The number that an equivalence witness posts for its z: the order for the last, where the fault is that.
+    fn post_z<X: Exponent>(self, j: u64, z: X) -> X::Posted
+        ensures { X.Exponent.number result ≡ posted_z X.Exponent.exponents self j (X.Exponent.value z) }
+    {
+        match self {
+            Fault::UnfitNumber if j == 2 => X::order(),
+            _ => z.post(),
+        }
+    }
+
+    // The challenges of both answers of a disjunctive witness.
+    fn challenges<X: Exponent>(self, word: u64) -> Challenges
+        ensures { result ≡ made_challenges X.Exponent.exponents self word }
+    {
+        let challenges = challenges_of::<X>(word);
+        match self {
+            Fault::EqualChallenges => Challenges {
+                second: challenges.first,
+                ..challenges
+            },
+            _ => challenges,
+        }
+    }
+}
+
+impl Outputs {
+    // The branch that is proved: that of the output made from the first input.
+    fn branch(self) -> Setting
+        ensures { result ≡ proved_branch self }
+    {
+        match self {
+            Outputs::Swapped => Setting::Swapped,
+            _ => Setting::Straight,
+        }
     }
 }
 
@@ -156,7 +160,7 @@ impl<G: Group> Maker<'_, G> {
         } = self.comparison;
         let folded = fold_key(g, key, z);
         let proved = prove(g, folded, gamma, z.add(gamma), parts_of(challenges, other));
-        match branch_of(self.task.kind.outputs) {
+        match self.task.kind.outputs.branch() {
             Setting::Straight => {
                 let quotient = fold_quotient(g, inputs.first, outputs.second, z);
                 Disjunction {
@@ -182,13 +186,13 @@ impl<G: Group> Maker<'_, G> {
         ensures { equivalence_meaning G.Group.point G.Exponent.Exponent.number result ≡ made_equivalence_witness G.Group.operations G.Exponent.Exponent.exponents (G.Group.point self.now.comparison.key) self.now.task j }
     {
         let task = self.task;
-        let word = word_of(task.seed, place_of(task.kind.fault, j));
+        let word = word_of(task.seed, task.kind.fault.place(j));
         let z = G::Exponent::from_word(word);
         let gamma = product_gamma(task, z);
         let folded = fold_key(self.g, self.comparison.key, z);
-        let challenges = next_challenges_of::<G::Exponent>(word);
+        let challenges = challenges_of::<G::Exponent>(word);
         Witness {
-            z: post_z(task.kind.fault, j, z),
+            z: task.kind.fault.post_z(j, z),
             answered: prove(self.g, folded, gamma, z.add(gamma), challenges),
         }
     }
@@ -202,7 +206,7 @@ impl<G: Group> Maker<'_, G> {
         let word = word_of(task.seed, j);
         let z = G::Exponent::from_word(word);
         let gamma = branch_gamma(task, z);
-        let challenges = challenges_of::<G::Exponent>(task.kind.fault, word);
+        let challenges = task.kind.fault.challenges::<G::Exponent>(word);
         let other = G::Exponent::challenge(word_of(word, 3));
         Witness {
             z: z.post(),

@@ -41,12 +41,12 @@ fn make_outputs<G: Group>(
     key: G::Element,
     inputs: Pair<G::Element>,
     outputs: Outputs,
-    r1: G::Exponent,
-    r2: G::Exponent,
+    secrets: Secrets<G::Exponent>,
 ) -> Pair<G::Element>
-    ensures { pair_meaning G.Group.point result ≡ made_outputs G.Group.operations (G.Group.point key) (pair_meaning G.Group.point inputs) outputs (G.Exponent.Exponent.value r1) (G.Exponent.Exponent.value r2) }
+    ensures { pair_meaning G.Group.point result ≡ made_outputs G.Group.operations (G.Group.point key) (pair_meaning G.Group.point inputs) outputs (G.Exponent.Exponent.value secrets.r1) (G.Exponent.Exponent.value secrets.r2) }
 {
     let Pair { first, second } = inputs;
+    let Secrets { private: _, r1, r2 } = secrets;
     match outputs {
         Outputs::Straight => Pair {
             first: reencrypt(g, key, first, r1),
@@ -66,10 +66,10 @@ fn make_outputs<G: Group>(
 pub fn make_comparison<G: Group>(g: &G, task: Task) -> Comparison<G::Element>
     ensures { comparison_meaning G.Group.point result ≡ made_comparison G.Group.operations G.Exponent.Exponent.exponents task }
 {
-    let Secrets { private, r1, r2 } = Secrets::<G::Exponent>::from(task);
-    let key = g.raise(g.generator(), private);
+    let secrets = Secrets::<G::Exponent>::from(task);
+    let key = g.raise(g.generator(), secrets.private);
     let inputs = make_inputs(g, key, task.seed);
-    let outputs = make_outputs(g, key, inputs, task.kind.outputs, r1, r2);
+    let outputs = make_outputs(g, key, inputs, task.kind.outputs, secrets);
     Comparison {
         key,
         inputs,

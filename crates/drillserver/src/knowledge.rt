@@ -89,13 +89,15 @@ impl<X: Exponent> Secrets<X> {
     }
 }
 
-// The exponent that answers are made from: not the right one, where the fault is that.
-fn claim<X: Exponent>(fault: Fault, gamma: X) -> X
-    ensures { X.Exponent.value result ≡ claimed_exponent X.Exponent.exponents fault (X.Exponent.value gamma) }
-{
-    match fault {
-        Fault::WrongAnswer => gamma.add(X::from_word(1)),
-        _ => gamma,
+impl Fault {
+    // The exponent that answers are made from: not the right one, where the fault is that.
+    fn claim<X: Exponent>(self, gamma: X) -> X
+        ensures { X.Exponent.value result ≡ claimed_exponent X.Exponent.exponents self (X.Exponent.value gamma) }
+    {
+        match self {
+            Fault::WrongAnswer => gamma.add(X::from_word(1)),
+            _ => gamma,
+        }
     }
 }
 
@@ -113,5 +115,5 @@ pub fn branch_gamma<X: Exponent>(task: Task, z: X) -> X
 {
     let secrets = Secrets::<X>::from(task);
     let known = secrets.known_branch(task.kind.outputs);
-    claim(task.kind.fault, secrets.gamma_at(known, z))
+    task.kind.fault.claim(secrets.gamma_at(known, z))
 }

@@ -1,4 +1,6 @@
 // A line of the input: GROUP X KIND R1 R2 SEED.
+ghost use Rattle.kinds.specs.Kinds.{IsNamedGroup};
+
 use crate::task::{Kind, Task};
 use kinds::GroupKind;
 use refusal::Reason;
@@ -49,7 +51,9 @@ impl FromStr for Line {
 
 impl Line {
     // The group that the number names; a number of more than 32 bits names none.
-    pub fn group_kind(self) -> Result<GroupKind, Reason> {
+    pub fn group_kind(self) -> Result<GroupKind, Reason>
+        ensures { IsNamedGroup self.group result }
+    {
         let number = u32::try_from(self.group).map_err(|_| Reason::UnknownGroupOrPlan)?;
         GroupKind::try_from(number)
     }

@@ -1,6 +1,7 @@
 -- Which refusal is the first.
-use Rattle.std.proofs.Common.{◌≡◌, ℕ, suc, ◌+◌, ◌<◌, ◌≤◌, Bool, true, false, not, eqb, ◌⊎◌, inl, inr, List, [], ◌∷◌, map, length, get_or, drop, Some, None, Option, refl, ap, ◌∙◌, arith, drop_of_length-le, eq-eqb, ne_eqb}
+use Rattle.std.proofs.Common.{◌≡◌, ℕ, ◌+◌, ◌<◌, ◌≤◌, Bool, true, false, not, eqb, ◌⊎◌, inl, inr, List, [], ◌∷◌, map, length, get_or, drop, Some, None, Option, refl, ap, ◌∙◌, arith, drop_of_length-le, eq-eqb, ne_eqb}
 use borrow.Author.Tests.{eqb-false}
+use Rattle.std.proofs.lemmas.List.{length-map}
 use Rattle.std.specs.List.{filter_map, cons_option}
 use Rattle.equivalence.specs.Judgement.{unless}
 use Rattle.refusal.specs.declared.Reason.{Reason}
@@ -40,21 +41,17 @@ pub among_is : {N A M : Type 0} (E : Exponents) (proof : Proof M) (number : N �
 among_is E proof number m place ws =
     ap (λ zs. or_else (repeated place [] zs) (judged (judge E proof) place (map (witness_meaning number m) ws))) (draws_map number (witness_meaning number m) (λ w. refl) ws)
 
-length-map : {A B : Type 0} (f : A → B) (xs : List A) → length (map f xs) ≡ length xs
-length-map f [] = refl
-length-map f (x ∷ xs) = ap suc (length-map f xs)
-
 -- all refusals, by the counts of what the witnesses are made from
 module _ {P A B : Type 0} (G : Operations P) (E : Exponents) (k : Comparison P) (f : A → EquivalenceWitness P) (h : B → DisjunctiveWitness P) (ws : List A) (vs : List B) where
   pub few : (length ws ≡ 3 → ⊥) ⊎ ((length ws ≡ 3) × (length vs ≡ 5 → ⊥)) → first_refusal G E k (map f ws) (map h vs) ≡ Some (refused_at UnfitWitnessCount 0)
   unfolding first_refusal
-  few (inl n) = simp (length-map f ws, ne_eqb (length ws) 3 n)
-  few (inr n) = simp (length-map f ws, length-map h vs, eq-eqb (length ws) 3 n.0, ne_eqb (length vs) 5 n.1)
+  few (inl n) = simp (length-map ws f, ne_eqb (length ws) 3 n)
+  few (inr n) = simp (length-map ws f, length-map vs h, eq-eqb (length ws) 3 n.0, ne_eqb (length vs) 5 n.1)
 
   pub counts_fit : length ws ≡ 3 → length vs ≡ 5
       → first_refusal G E k (map f ws) (map h vs) ≡ or_else (refusal_among E (equivalence_proof G E k) 0 (map f ws)) (refusal_among E (disjunctive_proof G E k) 3 (map h vs))
   unfolding first_refusal equivalence_refusal disjunctive_refusal
-  counts_fit e i = simp (length-map f ws, length-map h vs, eq-eqb (length ws) 3 e, eq-eqb (length vs) 5 i)
+  counts_fit e i = simp (length-map ws f, length-map vs h, eq-eqb (length ws) 3 e, eq-eqb (length vs) 5 i)
 
 -- a judgement that refuses nothing
 pub judged_well : (fits : Bool) (a b : ℕ) (accepted : Bool) → judgement fits a b accepted ≡ None → (fits ≡ true) × (a ≡ b → ⊥) × (accepted ≡ true)
@@ -93,8 +90,8 @@ module _ {P : Type 0} (G : Operations P) (E : Exponents) (k : Comparison P) wher
   pub product_shown : {A : Type 0} (f : A → EquivalenceWitness P) (ws : List A) → length ws ≡ 3 → refusal_among E (equivalence_proof G E k) 0 (map f ws) ≡ None
       → three_of (filter_map (shown_where_fit E (equivalence_proof G E k) (equivalence_sample E)) (map f ws)) ≡ Some (first_three (map (equivalence_sample E) (map f ws)))
   product_shown f ws three e =
-      let n = length-map f ws in
-      let m = length-map (equivalence_sample E) (map f ws) in
+      let n = length-map ws f in
+      let m = length-map (map f ws) (equivalence_sample E) in
       ap three_of (all_shown E (equivalence_proof G E k) (equivalence_sample E) 0 (map f ws) (neither _ _ e).1)
       ∙ enough (map (equivalence_sample E) (map f ws)) (omega arith)
 
@@ -102,4 +99,4 @@ module _ {P : Type 0} (G : Operations P) (E : Exponents) (k : Comparison P) wher
       → let ds = filter_map (shown_where_fit E (disjunctive_proof G E k) (drawn E)) (map f ws) in option_or (three_on Straight ds) (three_on Swapped ds) ≡ Some (chosen (map (drawn E) (map f ws)))
   branch_shown f ws five e =
       ap (λ ds. option_or (three_on Straight ds) (three_on Swapped ds)) (all_shown E (disjunctive_proof G E k) (drawn E) 3 (map f ws) (neither _ _ e).1)
-      ∙ branch_chosen (map (drawn E) (map f ws)) (length-map (drawn E) (map f ws) ∙ length-map f ws ∙ five)
+      ∙ branch_chosen (map (drawn E) (map f ws)) (length-map (map f ws) (drawn E) ∙ length-map ws f ∙ five)

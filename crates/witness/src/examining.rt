@@ -119,14 +119,11 @@ fn choose_branch<G: Group>(
     witnesses: &[PostedDisjunctiveWitness<G>],
 ) -> Option<Branch<G::Exponent>>
     ensures { let asks = disjunctive_proof G.Group.operations G.Exponent.Exponent.exponents (comparison_meaning G.Group.point proof.now.comparison) in
-        let drawn = filter_map (shown_where_fit G.Exponent.Exponent.exponents asks (drawn G.Exponent.Exponent.exponents)) (map (disjunctive_meaning G.Group.point G.Exponent.Exponent.number) witnesses.now) in
-        option_map (branch_meaning G.Exponent.Exponent.value) result ≡ option_or (three_on Straight drawn) (three_on Swapped drawn) }
+        let shown = filter_map (shown_where_fit G.Exponent.Exponent.exponents asks (drawn G.Exponent.Exponent.exponents)) (map (disjunctive_meaning G.Group.point G.Exponent.Exponent.number) witnesses.now) in
+        option_map (branch_meaning G.Exponent.Exponent.value) result ≡ option_or (three_on Straight shown) (three_on Swapped shown) }
 {
-    branch_on(proof, witnesses, Setting::Straight).or_else(|| branch_on(
-        proof,
-        witnesses,
-        Setting::Swapped,
-    ))
+    let straight = branch_on(proof, witnesses, Setting::Straight);
+    straight.or_else(|| branch_on(proof, witnesses, Setting::Swapped))
 }
 
 // Examines the witnesses of both proofs: the first refusal, or what they show.

@@ -23,9 +23,10 @@ use posting::comparison::Comparison;
 pub(crate) trait Proof {
     type Exponent: Exponent;
 
-    // What was answered, as it was posted, and with its numbers read.
+    // What was answered, as it was posted.
     type Posted: Copy;
 
+    // The same with its numbers read.
     type Read: Copy;
 
     // What a witness shows.

@@ -64,6 +64,7 @@ fn challenge_difference<X: Exponent>(first: u64, second: u64) -> X
 }
 
 // The exponent that two answers to one commitment give: (s - s') / (c - c').
+#[tactic(auto, unfolding(crate::specs::Samples::gamma))]
 pub(crate) fn gamma_of<X: Exponent>(first: Answer<X>, second: Answer<X>) -> X
     ensures { X.Exponent.value result ≡ gamma X.Exponent.exponents (answer_meaning X.Exponent.value first) (answer_meaning X.Exponent.value second) }
 {

@@ -11,4 +11,4 @@ returns g c =
     let made = made_disjunctive_witness g.G.Group.operations g.G.Exponent.Exponent.exponents (comparison_meaning g.G.Group.point c.args.self.now.comparison) c.args.self.now.task in
     map_from_collect c.collect.result c.collect.ensures.ran
     (YieldsList-from_map_by _ (disjunctive_meaning g.G.Group.point g.G.Exponent.Exponent.number) made
-    (YieldsList-at c.map.ensures.source (YieldsList-from_range 0 5 5 refl refl)) c.map.ensures.closure (λ x r q k. search (rules, tests)))
+    (YieldsList-at c.map.ensures.source (YieldsList-from_range _ _ _ refl refl)) c.map.ensures.closure (λ x r q k. search (rules, tests)))

@@ -10,4 +10,4 @@ returns g c =
     let made = made_equivalence_witness g.G.Group.operations g.G.Exponent.Exponent.exponents (g.G.Group.point c.args.self.now.comparison.key) c.args.self.now.task in
     map_from_collect c.collect.result c.collect.ensures.ran
     (YieldsList-from_map_by _ (equivalence_meaning g.G.Group.point g.G.Exponent.Exponent.number) made
-    (YieldsList-at c.map.ensures.source (YieldsList-from_range 0 3 3 refl refl)) c.map.ensures.closure (λ x r q k. search (rules, tests)))
+    (YieldsList-at c.map.ensures.source (YieldsList-from_range _ _ _ refl refl)) c.map.ensures.closure (λ x r q k. search (rules, tests)))
