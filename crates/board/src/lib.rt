@@ -3,4 +3,5 @@
 
 pub mod board;
 pub mod events;
+pub mod setup;
 pub mod verdict;

@@ -8,6 +8,7 @@ ghost use Rattle.board.specs.States.{view, state_map};
 use super::Board;
 use super::step::step;
 use crate::events::{Event, Stage, Taken};
+use crate::setup::Setup;
 use clearing::Clearing;
 use group::{Exponent, Group};
 use plan::Plan;
@@ -17,30 +18,21 @@ use source::Source;
 // Takes an event, or refuses it: then no list and no count is altered. The posting buffer ends as zeros.
 pub fn call<G: Group, P: Plan, S: Source>(
     board: &mut Board<'_, G::Element>,
-    group: &G,
-    plan: &P,
-    source: &S,
+    setup: &Setup<'_, G, P, S>,
     event: Event<G::Element, <G::Exponent as Exponent>::Posted>,
     buffer: &mut [u8],
 ) -> Result<Taken, Refusal>
-    ensures happens { Happens (terms G.Group.operations G.Exponent.Exponent.exponents (S.Source.words source.now) (G.Group.point board.old.key) (P.Plan.listing plan.now)) (state_map (meaning G.Group.point) (view board.old)) (event_meaning G.Group.point G.Exponent.Exponent.number event) (length buffer.old) result (state_map (meaning G.Group.point) (view board.new)) }
+    ensures happens { Happens (terms G.Group.operations G.Exponent.Exponent.exponents (S.Source.words setup.now.source.now) (G.Group.point board.old.key) (P.Plan.listing setup.now.plan.now)) (state_map (meaning G.Group.point) (view board.old)) (event_meaning G.Group.point G.Exponent.Exponent.number event) (length buffer.old) result (state_map (meaning G.Group.point) (view board.new)) }
     ensures key { board.new.key ≡ board.old.key }
     ensures cleared { buffer.new ≡ zeros 0 buffer.old }
 {
     let buffer = Clearing { places: buffer };
-    let short = buffer.places.len() < 11 * group.code_width();
+    let short = buffer.places.len() < 11 * setup.group.code_width();
     match (board.stage, event) {
         (_, Event::Step(_)) if short => Err(Reason::UnfitLength.at(board.next)),
         (Stage::Gathering, Event::Post(quote)) => board.post(quote),
         (Stage::Gathering, Event::Close) => board.close(),
-        (Stage::Turning, Event::Step(message)) => step(
-            board,
-            group,
-            plan,
-            source,
-            message,
-            buffer.places,
-        ),
+        (Stage::Turning, Event::Step(message)) => step(board, setup, message, buffer.places),
         (Stage::Turning, Event::Expel) => Ok(board.expel()),
         _ => Err(Reason::WrongStage.at(board.next)),
     }

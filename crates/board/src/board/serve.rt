@@ -13,6 +13,7 @@ ghost use Rattle.board.specs.declared.events.Stage.TheVariants.{Turning};
 use super::Board;
 use super::step::question_of;
 use crate::events::Stage;
+use crate::setup::Setup;
 use clearing::Clearing;
 use group::{Exponent, Group};
 use plan::{Comparator, Plan, Setting};
@@ -56,16 +57,14 @@ impl<'a, E: Copy> Board<'a, E> {
 // takes it as a step. The board is left as it is; words and buffer end as zeros.
 pub fn honest_step<G: Group, P: Plan, S: Source>(
     board: &mut Board<'_, G::Element>,
-    group: &G,
-    plan: &P,
-    source: &S,
+    setup: &Setup<'_, G, P, S>,
     setting: Setting,
     words: &mut [u64],
     buffer: &mut [u8],
 ) -> Result<Message<G::Element, <G::Exponent as Exponent>::Posted>, Refusal>
-    ensures outcome { Outcome (judge_honest (terms G.Group.operations G.Exponent.Exponent.exponents (S.Source.words source.now) (G.Group.point board.old.key) (P.Plan.listing plan.now)) (state_map (meaning G.Group.point) (view board.old)) (length words.old) (length buffer.old)) board.old.next
-        (λ m. HonestStep (terms G.Group.operations G.Exponent.Exponent.exponents (S.Source.words source.now) (G.Group.point board.old.key) (P.Plan.listing plan.now)) (state_map (meaning G.Group.point) (view board.old)) setting words.old (message_meaning G.Group.point G.Exponent.Exponent.number m)) result }
-    ensures taken { IfOk result (λ m. judge_call (terms G.Group.operations G.Exponent.Exponent.exponents (S.Source.words source.now) (G.Group.point board.old.key) (P.Plan.listing plan.now)) (state_map (meaning G.Group.point) (view board.old)) (Step (message_meaning G.Group.point G.Exponent.Exponent.number m)) (length buffer.old) ≡ None) }
+    ensures outcome { Outcome (judge_honest (terms G.Group.operations G.Exponent.Exponent.exponents (S.Source.words setup.now.source.now) (G.Group.point board.old.key) (P.Plan.listing setup.now.plan.now)) (state_map (meaning G.Group.point) (view board.old)) (length words.old) (length buffer.old)) board.old.next
+        (λ m. HonestStep (terms G.Group.operations G.Exponent.Exponent.exponents (S.Source.words setup.now.source.now) (G.Group.point board.old.key) (P.Plan.listing setup.now.plan.now)) (state_map (meaning G.Group.point) (view board.old)) setting words.old (message_meaning G.Group.point G.Exponent.Exponent.number m)) result }
+    ensures taken { IfOk result (λ m. judge_call (terms G.Group.operations G.Exponent.Exponent.exponents (S.Source.words setup.now.source.now) (G.Group.point board.old.key) (P.Plan.listing setup.now.plan.now)) (state_map (meaning G.Group.point) (view board.old)) (Step (message_meaning G.Group.point G.Exponent.Exponent.number m)) (length buffer.old) ≡ None) }
     ensures kept { board.new ≡ board.old }
     ensures words_cleared { words.new ≡ zeros 0 words.old }
     ensures buffer_cleared { buffer.new ≡ zeros 0 buffer.old }
@@ -73,17 +72,17 @@ pub fn honest_step<G: Group, P: Plan, S: Source>(
     let words = Clearing { places: words };
     let buffer = Clearing { places: buffer };
     let next = board.next;
-    if words.places.len() != 6 || buffer.places.len() < 11 * group.code_width() {
+    if words.places.len() != 6 || buffer.places.len() < 11 * setup.group.code_width() {
         return Err(Reason::UnfitLength.at(next));
     }
-    let Some(on) = board.next_comparator(plan) else {
+    let Some(on) = board.next_comparator(setup.plan) else {
         return Err(Reason::WrongStage.at(next));
     };
     let inputs = board.inputs_on(on);
-    let question = question_of(plan.count(), board.server, next);
+    let question = question_of(setup.plan.count(), board.server, next);
     prove(
-        group,
-        source,
+        setup.group,
+        setup.source,
         board.key,
         inputs,
         setting,

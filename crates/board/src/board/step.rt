@@ -10,6 +10,7 @@ ghost use Rattle.board.specs.declared.events.Stage.TheVariants.{Turning};
 
 use super::Board;
 use crate::events::Taken;
+use crate::setup::Setup;
 use equivalence::check::check;
 use group::{Exponent, Group};
 use plan::{Comparator, Plan};
@@ -51,28 +52,27 @@ impl<'a, E: Copy> Board<'a, E> {
 // Judges a step on the next comparator, and writes its outputs where it is taken.
 pub(crate) fn step<G: Group, P: Plan, S: Source>(
     board: &mut Board<'_, G::Element>,
-    group: &G,
-    plan: &P,
-    source: &S,
+    setup: &Setup<'_, G, P, S>,
     message: Message<G::Element, <G::Exponent as Exponent>::Posted>,
     buffer: &mut [u8],
 ) -> Result<Taken, Refusal>
     requires stage { board.old.stage ≡ Turning }
     requires buffer { 11 * G.Group.operations.width ≤ length buffer.old }
     ensures key { board.new.key ≡ board.old.key }
-    ensures happens { StepHappens (judge_step (terms G.Group.operations G.Exponent.Exponent.exponents (S.Source.words source.now) (G.Group.point board.old.key) (P.Plan.listing plan.now)) (state_map (meaning G.Group.point) (view board.old)) (message_meaning G.Group.point G.Exponent.Exponent.number message) (nth (P.Plan.listing plan.now) board.old.next)) (P.Plan.listing plan.now) (view board.old) message.outputs result (view board.new) }
+    ensures happens { StepHappens (judge_step (terms G.Group.operations G.Exponent.Exponent.exponents (S.Source.words setup.now.source.now) (G.Group.point board.old.key) (P.Plan.listing setup.now.plan.now)) (state_map (meaning G.Group.point) (view board.old)) (message_meaning G.Group.point G.Exponent.Exponent.number message) (nth (P.Plan.listing setup.now.plan.now) board.old.next)) (P.Plan.listing setup.now.plan.now) (view board.old) message.outputs result (view board.new) }
 {
     let next = board.next;
-    let Some(on) = plan.comparator(next) else {
+    let Some(on) = setup.plan.comparator(next) else {
         return Err(Reason::WrongStage.at(next));
     };
     if on.second >= board.wires.len() {
         return Err(Reason::WrongStage.at(next));
     }
-    let count = plan.count();
+    let count = setup.plan.count();
     let Message { outputs, proofs } = message;
     let comparison = board.comparison_on(on, outputs);
     let question = question_of(count, board.server, next);
+    let Setup { group, source, .. } = *setup;
     check(group, source, comparison, proofs, question, buffer, next)?;
     Ok(board.write(on, outputs, count))
 }

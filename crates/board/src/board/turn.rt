@@ -14,6 +14,7 @@ ghost use Rattle.board.specs.declared.events.Stage.TheVariants.{Turning};
 use super::Board;
 use super::step::question_of;
 use crate::events::Stage;
+use crate::setup::Setup;
 use clearing::Clearing;
 use group::{Exponent, Group};
 use plan::{Comparator, Plan, Setting};
@@ -25,9 +26,7 @@ use source::Source;
 // Makes the honest step on a comparator, and writes its outputs. It is not checked: what an honest server makes is taken.
 fn serve_step<G: Group, P: Plan, S: Source>(
     board: &mut Board<'_, G::Element>,
-    group: &G,
-    plan: &P,
-    source: &S,
+    setup: &Setup<'_, G, P, S>,
     on: Comparator,
     setting: Setting,
     mut words: [u64; 6],
@@ -35,14 +34,19 @@ fn serve_step<G: Group, P: Plan, S: Source>(
 ) -> Result<(), Refusal>
     requires first { on.first < length board.old.wires.now }
     requires second { on.second < length board.old.wires.now }
-    requires next { board.old.next < length (P.Plan.listing plan.now) }
+    requires next { board.old.next < length (P.Plan.listing setup.now.plan.now) }
     requires stage { board.old.stage ≡ Turning }
     requires buffer { 11 * G.Group.operations.width ≤ length buffer.old }
-    requires reach { 4 * (length (P.Plan.listing plan.now) * (board.old.server - 1) + board.old.next) + 3 < (S.Source.words source.now).reach }
+    requires reach { 4 * (length (P.Plan.listing setup.now.plan.now) * (board.old.server - 1) + board.old.next) + 3 < (S.Source.words setup.now.source.now).reach }
     ensures made { is_ok result ≡ true }
     ensures key { board.new.key ≡ board.old.key }
-    ensures state { state_map (meaning G.Group.point) (view board.new) ≡ after_step (terms G.Group.operations G.Exponent.Exponent.exponents (S.Source.words source.now) (G.Group.point board.old.key) (P.Plan.listing plan.now)) (state_map (meaning G.Group.point) (view board.old)) (honest_step (terms G.Group.operations G.Exponent.Exponent.exponents (S.Source.words source.now) (G.Group.point board.old.key) (P.Plan.listing plan.now)) (state_map (meaning G.Group.point) (view board.old)) on setting words) (Some on) }
+    ensures state { state_map (meaning G.Group.point) (view board.new) ≡ after_step (terms G.Group.operations G.Exponent.Exponent.exponents (S.Source.words setup.now.source.now) (G.Group.point board.old.key) (P.Plan.listing setup.now.plan.now)) (state_map (meaning G.Group.point) (view board.old)) (honest_step (terms G.Group.operations G.Exponent.Exponent.exponents (S.Source.words setup.now.source.now) (G.Group.point board.old.key) (P.Plan.listing setup.now.plan.now)) (state_map (meaning G.Group.point) (view board.old)) on setting words) (Some on) }
 {
+    let Setup {
+        group,
+        plan,
+        source,
+    } = *setup;
     let next = board.next;
     let count = plan.count();
     let inputs = board.inputs_on(on);
@@ -73,30 +77,28 @@ fn six_words(words: &[u64], k: usize) -> [u64; 6]
 // Makes the honest step on each comparator, from comparator 0 on.
 fn serve_steps<G: Group, P: Plan, S: Source>(
     board: &mut Board<'_, G::Element>,
-    group: &G,
-    plan: &P,
-    source: &S,
+    setup: &Setup<'_, G, P, S>,
     settings: &[Setting],
     words: &[u64],
     buffer: &mut [u8],
 ) -> Result<(), Refusal>
     requires stage { board.old.stage ≡ Turning }
     requires next { board.old.next ≡ 0 }
-    requires wide { length board.old.wires.now ≡ P.Plan.width plan.now }
-    requires settings { length settings.now ≡ length (P.Plan.listing plan.now) }
-    requires words { length words.now ≡ 6 * length (P.Plan.listing plan.now) }
+    requires wide { length board.old.wires.now ≡ P.Plan.width setup.now.plan.now }
+    requires settings { length settings.now ≡ length (P.Plan.listing setup.now.plan.now) }
+    requires words { length words.now ≡ 6 * length (P.Plan.listing setup.now.plan.now) }
     requires buffer { 11 * G.Group.operations.width ≤ length buffer.old }
-    requires reach { 4 * (length (P.Plan.listing plan.now) * board.old.server) ≤ (S.Source.words source.now).reach }
+    requires reach { 4 * (length (P.Plan.listing setup.now.plan.now) * board.old.server) ≤ (S.Source.words setup.now.source.now).reach }
     ensures made { is_ok result ≡ true }
     ensures key { board.new.key ≡ board.old.key }
-    ensures state { state_map (meaning G.Group.point) (view board.new) ≡ turned (terms G.Group.operations G.Exponent.Exponent.exponents (S.Source.words source.now) (G.Group.point board.old.key) (P.Plan.listing plan.now)) (P.Plan.listing plan.now) settings.now words.now (state_map (meaning G.Group.point) (view board.old)) }
+    ensures state { state_map (meaning G.Group.point) (view board.new) ≡ turned (terms G.Group.operations G.Exponent.Exponent.exponents (S.Source.words setup.now.source.now) (G.Group.point board.old.key) (P.Plan.listing setup.now.plan.now)) (P.Plan.listing setup.now.plan.now) settings.now words.now (state_map (meaning G.Group.point) (view board.old)) }
 {
     for k in 0..settings.len() {
-        let Some(on) = plan.comparator(k) else {
+        let Some(on) = setup.plan.comparator(k) else {
             return Err(Reason::WrongStage.at(k));
         };
         let six = six_words(words, k);
-        serve_step(board, group, plan, source, on, settings[k], six, buffer)?;
+        serve_step(board, setup, on, settings[k], six, buffer)?;
     }
     Ok(())
 }
@@ -142,20 +144,19 @@ fn reaches_through<P: Plan, S: Source>(plan: &P, source: &S, server: usize) -> b
 // The board takes them as so many steps. Working places, secret words and posting buffer end as zeros.
 pub fn serve<G: Group, P: Plan, S: Source>(
     board: &mut Board<'_, G::Element>,
-    group: &G,
-    plan: &P,
-    source: &S,
+    setup: &Setup<'_, G, P, S>,
     permutation: &[usize],
     settings: &mut [Setting],
     words: &mut [u64],
     buffer: &mut [u8],
 ) -> Result<usize, Refusal>
-    ensures serves { (steps : List (Message G.Group.Point ℕ)) × Serves (terms G.Group.operations G.Exponent.Exponent.exponents (S.Source.words source.now) (G.Group.point board.old.key) (P.Plan.listing plan.now)) (P.Plan.width plan.now) (state_map (meaning G.Group.point) (view board.old)) permutation.now (length settings.old) words.old (length buffer.old) steps result (state_map (meaning G.Group.point) (view board.new)) }
+    ensures serves { (steps : List (Message G.Group.Point ℕ)) × Serves (terms G.Group.operations G.Exponent.Exponent.exponents (S.Source.words setup.now.source.now) (G.Group.point board.old.key) (P.Plan.listing setup.now.plan.now)) (P.Plan.width setup.now.plan.now) (state_map (meaning G.Group.point) (view board.old)) permutation.now (length settings.old) words.old (length buffer.old) steps result (state_map (meaning G.Group.point) (view board.new)) }
     ensures key { board.new.key ≡ board.old.key }
     ensures places_cleared { settings.new ≡ zeros Straight settings.old }
     ensures words_cleared { words.new ≡ zeros 0 words.old }
     ensures buffer_cleared { buffer.new ≡ zeros 0 buffer.old }
 {
+    let Setup { group, plan, .. } = *setup;
     let settings = Clearing { places: settings };
     let words = Clearing { places: words };
     let buffer = Clearing { places: buffer };
@@ -179,17 +180,9 @@ pub fn serve<G: Group, P: Plan, S: Source>(
         return Err(refusal.reason.at(next));
     }
     let server = board.server;
-    if !reaches_through(plan, source, server) {
+    if !reaches_through(plan, setup.source, server) {
         return Err(Reason::BeyondReach.at(next));
     }
-    serve_steps(
-        board,
-        group,
-        plan,
-        source,
-        settings.places,
-        words.places,
-        buffer.places,
-    )?;
+    serve_steps(board, setup, settings.places, words.places, buffer.places)?;
     Ok(server)
 }

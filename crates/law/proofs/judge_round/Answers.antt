@@ -7,6 +7,6 @@ pub returns : goal.returns
 returns g c =
     record {
       standing = search rules;
-      law = law _ _ g.G.Group.laws g.G.Exponent.Exponent.laws c.order.ensures.same_order (g.met.P.Plan.lawful c.args.plan.now) _;
+      law = law _ _ g.G.Group.laws g.G.Exponent.Exponent.laws c.order.ensures.same_order (g.met.P.Plan.lawful c.args.setup.now.plan.now) _;
       met = honest_round;
     }

@@ -11,7 +11,7 @@ pub returns-in-Gathering-Post : goal.returns-in-Gathering-Post
 returns-in-Gathering-Post g c =
     let point = g.G.Group.point in
     let b = c.args.board.now in
-    let T = terms g.G.Group.operations g.G.Exponent.Exponent.exponents (g.S.Source.words c.args.source.now) (point b.key) (g.P.Plan.listing c.args.plan.now) in
+    let T = terms g.G.Group.operations g.G.Exponent.Exponent.exponents (g.S.Source.words c.args.setup.now.source.now) (point b.key) (g.P.Plan.listing c.args.setup.now.plan.now) in
     let bytes = length c.args.buffer.now in
     let done = λ (e : Event g.row.G-Element.Denot _). Happens T (state_map (meaning point) (view b)) (event_meaning point g.G.Exponent.Exponent.number e) bytes c.post.result (state_map (meaning point) (view c.post.new.self)) in
     record {
@@ -24,7 +24,7 @@ pub returns-in-Gathering-Close : goal.returns-in-Gathering-Close
 returns-in-Gathering-Close g c =
     let point = g.G.Group.point in
     let b = c.args.board.now in
-    let T = terms g.G.Group.operations g.G.Exponent.Exponent.exponents (g.S.Source.words c.args.source.now) (point b.key) (g.P.Plan.listing c.args.plan.now) in
+    let T = terms g.G.Group.operations g.G.Exponent.Exponent.exponents (g.S.Source.words c.args.setup.now.source.now) (point b.key) (g.P.Plan.listing c.args.setup.now.plan.now) in
     let bytes = length c.args.buffer.now in
     let done = λ (e : Event g.row.G-Element.Denot _). Happens T (state_map (meaning point) (view b)) (event_meaning point g.G.Exponent.Exponent.number e) bytes c.close.result (state_map (meaning point) (view c.close.new.self)) in
     record {
@@ -37,7 +37,7 @@ pub returns-in-Turning-Step : goal.returns-in-Turning-Step
 returns-in-Turning-Step g c =
     let point = g.G.Group.point in
     let b = c.args.board.now in
-    let T = terms g.G.Group.operations g.G.Exponent.Exponent.exponents (g.S.Source.words c.args.source.now) (point b.key) (g.P.Plan.listing c.args.plan.now) in
+    let T = terms g.G.Group.operations g.G.Exponent.Exponent.exponents (g.S.Source.words c.args.setup.now.source.now) (point b.key) (g.P.Plan.listing c.args.setup.now.plan.now) in
     let bytes = length c.args.buffer.now in
     let message = c.in_default-Step.field-0-1 in
     let m = message_meaning point g.G.Exponent.Exponent.number message in

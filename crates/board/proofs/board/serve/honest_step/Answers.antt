@@ -22,7 +22,7 @@ pub returns-in_default : goal.returns-in_default
 returns-in_default g c =
     let point = g.G.Group.point in
     let b = c.args.board.now in
-    let T = terms g.G.Group.operations g.G.Exponent.Exponent.exponents (g.S.Source.words c.args.source.now) (point b.key) (g.P.Plan.listing c.args.plan.now) in
+    let T = terms g.G.Group.operations g.G.Exponent.Exponent.exponents (g.S.Source.words c.args.setup.now.source.now) (point b.key) (g.P.Plan.listing c.args.setup.now.plan.now) in
     let s = state_map (meaning point) (view b) in
     let room : 11 * g.G.Group.operations.width ≤ length c.args.buffer.now = omega (arith, c.if-buffer-code_width.false, c.code_width.ensures) in
     let judged = judged_next T s (length c.args.words.now) (length c.args.buffer.now) None c.if-words-ne6.false room (next_map (meaning point) T.comparators (view b) ∙ sym c.in_default.ensures) in
@@ -36,17 +36,17 @@ returns-in_default g c =
 
 pub inputs_on-inputs-requires : goal.inputs_on-inputs-requires
 inputs_on-inputs-requires g c =
-    let next = next_is (g.P.Plan.listing c.args.plan.now) (view c.args.board.now) c.in-Some.on (sym c.in-Some.ensures) in
-    let on = on_wires _ _ _ _ (g.met.P.Plan.lawful c.args.plan.now).within (sym next.listed) in
+    let next = next_is (g.P.Plan.listing c.args.setup.now.plan.now) (view c.args.board.now) c.in-Some.on (sym c.in-Some.ensures) in
+    let on = on_wires _ _ _ _ (g.met.P.Plan.lawful c.args.setup.now.plan.now).within (sym next.listed) in
     record { first = omega (arith, on.0, next.inside); second = next.inside }
 
 pub returns : goal.returns
 returns g c =
     let G = g.G.Group.operations in
     let E = g.G.Exponent.Exponent.exponents in
-    let S = g.S.Source.words c.args.source.now in
+    let S = g.S.Source.words c.args.setup.now.source.now in
     let point = g.G.Group.point in
-    let cs = g.P.Plan.listing c.args.plan.now in
+    let cs = g.P.Plan.listing c.args.setup.now.plan.now in
     let b = c.args.board.now in
     let T = terms G E S (point b.key) cs in
     let s = state_map (meaning point) (view b) in
@@ -58,7 +58,7 @@ returns g c =
     let room : 11 * G.width ≤ bytes = omega (arith, c.if-buffer-code_width.false, c.code_width.ensures) in
     let found : next_comparator cs s ≡ Some on = next_map (meaning point) cs (view b) ∙ sym c.in-Some.ensures in
     let here = next_is cs (view b) on (sym c.in-Some.ensures) in
-    let wires = on_wires _ _ _ _ (g.met.P.Plan.lawful c.args.plan.now).within (sym here.listed) in
+    let wires = on_wires _ _ _ _ (g.met.P.Plan.lawful c.args.setup.now.plan.now).within (sym here.listed) in
     let kept = c.inputs_on-inputs.ensures.kept in
     let key : point c.inputs_on-inputs.new.self.key ≡ point b.key = ap (λ (x : Board g.row.G-Element.Denot). point x.key) kept in
     let same : q ≡ question T s =

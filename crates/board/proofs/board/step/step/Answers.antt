@@ -16,7 +16,7 @@ use Rattle.board.proofs.board.step.step.Goals as goal
 
 pub returns-then-on-board : goal.returns-then-on-board
 returns-then-on-board g c =
-    let T = terms g.G.Group.operations g.G.Exponent.Exponent.exponents (g.S.Source.words c.args.source.now) (g.G.Group.point c.args.board.now.key) (g.P.Plan.listing c.args.plan.now) in
+    let T = terms g.G.Group.operations g.G.Exponent.Exponent.exponents (g.S.Source.words c.args.setup.now.source.now) (g.G.Group.point c.args.board.now.key) (g.P.Plan.listing c.args.setup.now.plan.now) in
     let s = state_map (meaning g.G.Group.point) (view c.args.board.now) in
     let m = message_meaning g.G.Group.point g.G.Exponent.Exponent.number c.args.message in
     let long = length-map (meaning g.G.Group.point) c.args.board.now.wires.now in
@@ -25,13 +25,13 @@ returns-then-on-board g c =
 
 pub comparison_on-comparison-requires : goal.comparison_on-comparison-requires
 comparison_on-comparison-requires g c =
-    let plan = g.met.P.Plan.lawful c.args.plan.now in
+    let plan = g.met.P.Plan.lawful c.args.setup.now.plan.now in
     let on = on_wires _ _ _ _ plan.within c.in-Some.ensures in
     record { first = omega (arith, on.0, c.if-on-board.false); second = omega (arith, c.if-on-board.false) }
 
 pub write-requires : goal.write-requires
 write-requires g c =
-    let plan = g.met.P.Plan.lawful c.args.plan.now in
+    let plan = g.met.P.Plan.lawful c.args.setup.now.plan.now in
     let on = on_wires _ _ _ _ plan.within c.in-Some.ensures in
     let kept = c.comparison_on-comparison.ensures.kept in
     let wires = ap (λ (x : Board g.row.G-Element.Denot). length x.wires.now) kept in
@@ -48,9 +48,9 @@ pub returns-in_err-check : goal.returns-in_err-check
 returns-in_err-check g c =
     let G = g.G.Group.operations in
     let E = g.G.Exponent.Exponent.exponents in
-    let S = g.S.Source.words c.args.source.now in
+    let S = g.S.Source.words c.args.setup.now.source.now in
     let point = g.G.Group.point in
-    let cs = g.P.Plan.listing c.args.plan.now in
+    let cs = g.P.Plan.listing c.args.setup.now.plan.now in
     let b = c.args.board.now in
     let T = terms G E S (point b.key) cs in
     let s = state_map (meaning point) (view b) in
@@ -73,9 +73,9 @@ pub returns : goal.returns
 returns g c =
     let G = g.G.Group.operations in
     let E = g.G.Exponent.Exponent.exponents in
-    let S = g.S.Source.words c.args.source.now in
+    let S = g.S.Source.words c.args.setup.now.source.now in
     let point = g.G.Group.point in
-    let cs = g.P.Plan.listing c.args.plan.now in
+    let cs = g.P.Plan.listing c.args.setup.now.plan.now in
     let b = c.args.board.now in
     let T = terms G E S (point b.key) cs in
     let s = state_map (meaning point) (view b) in

@@ -14,10 +14,10 @@ use Rattle.board.proofs.board.turn.serve.Goals as goal
 pub returns-then-not-is_at_start : goal.returns-then-not-is_at_start
 returns-then-not-is_at_start g c =
     let point = g.G.Group.point in
-    let n = g.P.Plan.width c.args.plan.now in
-    let cs = g.P.Plan.listing c.args.plan.now in
+    let n = g.P.Plan.width c.args.setup.now.plan.now in
+    let cs = g.P.Plan.listing c.args.setup.now.plan.now in
     let b = c.args.board.now in
-    let T = terms g.G.Group.operations g.G.Exponent.Exponent.exponents (g.S.Source.words c.args.source.now) (point b.key) cs in
+    let T = terms g.G.Group.operations g.G.Exponent.Exponent.exponents (g.S.Source.words c.args.setup.now.source.now) (point b.key) cs in
     let s = state_map (meaning point) (view b) in
     let fit : lengths_fit T n (length c.args.permutation.now) (length c.args.settings.now) (length c.args.words.now) (length c.args.buffer.now) ≡ true = sym c.lengths_fit.ensures ∙ c.if-not-lengths_fit.false in
     let start : at_start T n s ≡ c.is_at_start.result =
@@ -33,10 +33,10 @@ returns-then-not-is_at_start g c =
 pub returns-in-Err : goal.returns-in-Err
 returns-in-Err g c =
     let point = g.G.Group.point in
-    let n = g.P.Plan.width c.args.plan.now in
-    let cs = g.P.Plan.listing c.args.plan.now in
+    let n = g.P.Plan.width c.args.setup.now.plan.now in
+    let cs = g.P.Plan.listing c.args.setup.now.plan.now in
     let b = c.args.board.now in
-    let T = terms g.G.Group.operations g.G.Exponent.Exponent.exponents (g.S.Source.words c.args.source.now) (point b.key) cs in
+    let T = terms g.G.Group.operations g.G.Exponent.Exponent.exponents (g.S.Source.words c.args.setup.now.source.now) (point b.key) cs in
     let s = state_map (meaning point) (view b) in
     let fit : lengths_fit T n (length c.args.permutation.now) (length c.args.settings.now) (length c.args.words.now) (length c.args.buffer.now) ≡ true = sym c.lengths_fit.ensures ∙ c.if-not-lengths_fit.false in
     let start : at_start T n s ≡ c.is_at_start.result =
@@ -54,10 +54,10 @@ returns-in-Err g c =
 pub returns-then-not-reaches_through : goal.returns-then-not-reaches_through
 returns-then-not-reaches_through g c =
     let point = g.G.Group.point in
-    let n = g.P.Plan.width c.args.plan.now in
-    let cs = g.P.Plan.listing c.args.plan.now in
+    let n = g.P.Plan.width c.args.setup.now.plan.now in
+    let cs = g.P.Plan.listing c.args.setup.now.plan.now in
     let b = c.args.board.now in
-    let T = terms g.G.Group.operations g.G.Exponent.Exponent.exponents (g.S.Source.words c.args.source.now) (point b.key) cs in
+    let T = terms g.G.Group.operations g.G.Exponent.Exponent.exponents (g.S.Source.words c.args.setup.now.source.now) (point b.key) cs in
     let s = state_map (meaning point) (view b) in
     let fit : lengths_fit T n (length c.args.permutation.now) (length c.args.settings.now) (length c.args.words.now) (length c.args.buffer.now) ≡ true = sym c.lengths_fit.ensures ∙ c.if-not-lengths_fit.false in
     let start : at_start T n s ≡ c.is_at_start.result =
@@ -74,10 +74,10 @@ returns-then-not-reaches_through g c =
 pub returns : goal.returns
 returns g c =
     let point = g.G.Group.point in
-    let n = g.P.Plan.width c.args.plan.now in
-    let cs = g.P.Plan.listing c.args.plan.now in
+    let n = g.P.Plan.width c.args.setup.now.plan.now in
+    let cs = g.P.Plan.listing c.args.setup.now.plan.now in
     let b = c.args.board.now in
-    let T = terms g.G.Group.operations g.G.Exponent.Exponent.exponents (g.S.Source.words c.args.source.now) (point b.key) cs in
+    let T = terms g.G.Group.operations g.G.Exponent.Exponent.exponents (g.S.Source.words c.args.setup.now.source.now) (point b.key) cs in
     let s = state_map (meaning point) (view b) in
     let fit : lengths_fit T n (length c.args.permutation.now) (length c.args.settings.now) (length c.args.words.now) (length c.args.buffer.now) ≡ true = sym c.lengths_fit.ensures ∙ c.if-not-lengths_fit.false in
     let start : at_start T n s ≡ c.is_at_start.result =

@@ -18,7 +18,7 @@ use Rattle.board.proofs.board.turn.serve_step.Goals as goal
 
 pub write-requires : goal.write-requires
 write-requires g c =
-    let plan = g.met.P.Plan.lawful c.args.plan.now in
+    let plan = g.met.P.Plan.lawful c.args.setup.now.plan.now in
     let kept = c.inputs_on-inputs.ensures.kept in
     let wires = ap (λ (x : Board g.row.G-Element.Denot). length x.wires.now) kept in
     let next = ap (λ (x : Board g.row.G-Element.Denot). x.next) kept in
@@ -34,11 +34,11 @@ pub returns : goal.returns
 returns g c =
     let G = g.G.Group.operations in
     let E = g.G.Exponent.Exponent.exponents in
-    let S = g.S.Source.words c.args.source.now in
+    let S = g.S.Source.words c.args.setup.now.source.now in
     let point = g.G.Group.point in
     let P = g.G.Group.Point in
     let number = g.G.Exponent.Exponent.number in
-    let cs = g.P.Plan.listing c.args.plan.now in
+    let cs = g.P.Plan.listing c.args.setup.now.plan.now in
     let b = c.args.board.now in
     let T = terms G E S (point b.key) cs in
     let s = state_map (meaning point) (view b) in

@@ -16,11 +16,11 @@ pub loop-k-init : goal.loop-k-init
 loop-k-init g c = (refl, none_made _ _ _ _ c.requires.stage c.requires.next)
 
 pub returns-in_default : goal.returns-in_default
-returns-in_default g c = absurd (nth_within (g.P.Plan.listing c.args.plan.now) c.loop-k.k (omega (arith, c.loop-k-test.true, c.requires.settings)) (sym c.in_default.ensures))
+returns-in_default g c = absurd (nth_within (g.P.Plan.listing c.args.setup.now.plan.now) c.loop-k.k (omega (arith, c.loop-k-test.true, c.requires.settings)) (sym c.in_default.ensures))
 
 pub serve_step-requires : goal.serve_step-requires
 serve_step-requires g c =
-    let plan = g.met.P.Plan.lawful c.args.plan.now in
+    let plan = g.met.P.Plan.lawful c.args.setup.now.plan.now in
     let on = on_wires _ _ _ _ plan.within c.in-Some.ensures in
     let so_far = c.loop-k.invariant.1 in
     let long = length-map (meaning g.G.Group.point) c.loop-k.board.wires.now in
@@ -33,19 +33,19 @@ serve_step-requires g c =
       next = omega (arith, on.2, so_far.next on.2);
       stage = stage;
       buffer = omega (arith, c.requires.buffer, c.loop-k.auto.buffer);
-      reach = rw (so_far.next on.2) (question_below (length (g.P.Plan.listing c.args.plan.now)) c.loop-k.board.server c.loop-k.k _ some on.2 (rw (so_far.server on.2) c.requires.reach));
+      reach = rw (so_far.next on.2) (question_below (length (g.P.Plan.listing c.args.setup.now.plan.now)) c.loop-k.board.server c.loop-k.k _ some on.2 (rw (so_far.server on.2) c.requires.reach));
     }
 
 pub loop-k-preserved : goal.loop-k-preserved
 loop-k-preserved g c =
     let point = g.G.Group.point in
-    let terms-of = λ (y : g.row.G-Element.Denot). terms g.G.Group.operations g.G.Exponent.Exponent.exponents (g.S.Source.words c.args.source.now) (point y) (g.P.Plan.listing c.args.plan.now) in
+    let terms-of = λ (y : g.row.G-Element.Denot). terms g.G.Group.operations g.G.Exponent.Exponent.exponents (g.S.Source.words c.args.setup.now.source.now) (point y) (g.P.Plan.listing c.args.setup.now.plan.now) in
     let T = terms-of c.args.board.now.key in
     let s₀ = state_map (meaning point) (view c.args.board.now) in
     let s = state_map (meaning point) (view c.loop-k.board) in
     let ss = c.args.settings.now in
     let k = c.loop-k.k in
-    let on = on_wires _ _ _ _ (g.met.P.Plan.lawful c.args.plan.now).within c.in-Some.ensures in
+    let on = on_wires _ _ _ _ (g.met.P.Plan.lawful c.args.setup.now.plan.now).within c.in-Some.ensures in
     let told = c.in_ok-serve_step.ensures in
     let x = get_or ss k Straight in
     let s' = state_map (meaning point) (view c.serve_step.new.board) in
@@ -60,7 +60,7 @@ loop-k-preserved g c =
 pub returns : goal.returns
 returns g c =
     let point = g.G.Group.point in
-    let terms-of = λ (y : g.row.G-Element.Denot). terms g.G.Group.operations g.G.Exponent.Exponent.exponents (g.S.Source.words c.args.source.now) (point y) (g.P.Plan.listing c.args.plan.now) in
+    let terms-of = λ (y : g.row.G-Element.Denot). terms g.G.Group.operations g.G.Exponent.Exponent.exponents (g.S.Source.words c.args.setup.now.source.now) (point y) (g.P.Plan.listing c.args.setup.now.plan.now) in
     let T = terms-of c.args.board.now.key in
     let s₀ = state_map (meaning point) (view c.args.board.now) in
     record {
