@@ -6,7 +6,6 @@ mod tests;
 
 use anyhow::anyhow;
 use roundcheck::file::check_file;
-use roundcheck::report::{Ending, Report};
 use std::fs::File;
 use std::io::Read;
 use std::process::ExitCode;
@@ -55,20 +54,12 @@ fn read_bytes<R: Read + Drop>(rt: &HostRuntime, input: R) -> io::Result<Vec<u8>>
     Ok(bytes)
 }
 
-// Whether the file was read to its end.
-fn was_judged(report: &Report) -> bool {
-    match report.ending {
-        Ending::Judged(_) => true,
-        Ending::Refused(_) => false,
-    }
-}
-
 // Checks the bytes, prints the report, and answers whether they were read to their end.
 fn check(rt: &HostRuntime, bytes: &[u8]) -> anyhow::Result<bool> {
     let report = check_file(rt.alloc(), bytes)?;
     let text = report.text(rt.alloc())?;
     rt.print(text)?;
-    Ok(was_judged(&report))
+    Ok(report.ending.is_ok())
 }
 
 fn run(rt: &HostRuntime) -> anyhow::Result<bool> {

@@ -1,7 +1,7 @@
 -- The line that is printed for a record: its offset, its kind, and each field by its name.
-use Rattle.std.specs.Prelude.{ℕ, zero, suc, List, [], ◌++◌, codes, decimal}
-use Rattle.std.specs.Option.{unwrap_or}
-use Rattle.roundfile.specs.Fields.{opening_of, post_of, comparator_of, field, word, default_number}
+use Rattle.std.specs.Prelude.{ℕ, List, ◌++◌, codes, decimal}
+use Rattle.std.specs.List.{flat_map}
+use Rattle.roundfile.specs.Fields.{opening_of, post_of, comparator_of, field, words_in, default_number}
 use Rattle.roundfile.specs.Records.{Content, opening, draws, post, comparator, close, expel}
 use Rattle.roundfile.specs.declared.parts.Opening.{Opening}
 use Rattle.roundfile.specs.declared.parts.Post.{Post}
@@ -12,13 +12,12 @@ opening_text o =
     codes "opening group " ++ (decimal o.group ++ (codes " plan " ++ (decimal o.plan ++ (codes " wires " ++ (decimal o.wires
     ++ (codes " servers " ++ (decimal o.servers ++ (codes " key " ++ decimal o.key))))))))
 
--- The first words of draws, each after a space.
-abbrev pub words_text : List ℕ → ℕ → List ℕ
-words_text fields zero = []
-words_text fields (suc n) = words_text fields n ++ (codes " " ++ decimal (unwrap_or (word fields n) 0))
+-- Words, each after a space.
+abbrev pub words_text : List ℕ → List ℕ
+words_text words = flat_map (λ word. codes " " ++ decimal word) words
 
 abbrev pub draws_text : ℕ → List ℕ → List ℕ
-draws_text count fields = (codes "draws count " ++ (decimal count ++ codes " words")) ++ words_text fields count
+draws_text map fields = (codes "draws count " ++ (decimal (field map fields 0 default_number) ++ codes " words")) ++ words_text (words_in map fields)
 
 abbrev pub post_text : Post → List ℕ
 post_text p = codes "post alpha " ++ (decimal p.alpha ++ (codes " beta " ++ decimal p.beta))
@@ -42,7 +41,7 @@ comparator_text c = codes "comparator " ++ (outputs_text c ++ (codes " " ++ (pro
 
 abbrev pub record_text : Content → List ℕ
 record_text (opening map fields) = opening_text (opening_of map fields)
-record_text (draws map fields) = draws_text (field map fields 0 default_number) fields
+record_text (draws map fields) = draws_text map fields
 record_text (post map fields) = post_text (post_of map fields)
 record_text (comparator map fields) = comparator_text (comparator_of map fields)
 record_text close = codes "close"

@@ -1,9 +1,8 @@
 ghost use Rattle.std.specs.Prelude.{◌≡◌, IfOk, string_bytes};
-ghost use Rattle.roundfile.specs.Fields.{field, default_number};
 ghost use Rattle.roundfile.specs.Records.{content};
 ghost use Rattle.listround.specs.Lines.{opening_text, draws_text, post_text, outputs_text, product_text, branches_text, comparator_text, record_text, line_text};
 
-use roundfile::parts::{Comparator, DrawsPart, Opening, Post};
+use roundfile::parts::{Comparator, Draws, Opening, Part, Post};
 use roundfile::reader::Entry;
 use roundfile::record::Record;
 use std::alloc::{AllocError, Global};
@@ -21,15 +20,13 @@ fn opening_text(heap: Global, opening: Opening) -> Result<String, AllocError>
     format!(in heap; "opening group {group} plan {plan} wires {wires} servers {servers} key {key}")
 }
 
-fn draws_text(heap: Global, draws: DrawsPart) -> Result<String, AllocError>
-    ensures { IfOk result (λ text. string_bytes text ≡ draws_text (field draws.entry.fields.map draws.entry.fields.bytes.now 0 default_number) draws.entry.fields.bytes.now) }
+fn draws_text(heap: Global, draws: Part<'_, Draws>) -> Result<String, AllocError>
+    ensures { IfOk result (λ text. string_bytes text ≡ draws_text draws.entry.fields.map draws.entry.fields.bytes.now) }
 {
     let count = draws.count();
     let mut text = format!(in heap; "draws count {count} words")?;
-    for index in 0..count {
-        let word = draws.word(index).unwrap_or(0);
-        let piece = format!(in heap; " {word}")?;
-        text.push_str(piece.as_str())?;
+    for word in draws.words() {
+        write!(text, " {word}")?;
     }
     Ok(text)
 }

@@ -1,23 +1,24 @@
--- What is said of a part of a check is said of the whole.
-use Rattle.std.proofs.Common.{ℕ, List, IfOk, Ok, Err, Result, inl, inr, MatchResult}
-use Rattle.plan.specs.declared.Comparator.{Comparator}
-use Rattle.refusal.specs.declared.Refusal.{Refusal}
-use Rattle.roundcheck.specs.declared.report.Ending.{Ending}
+-- What a finished file says of the turn behind it.
+use Rattle.std.proofs.Common.{ℕ, List, [], Ok, Err, Result, MatchResult, sym, subst, inl, inr}
+use Rattle.refusal.specs.declared.failure.Failure.{Failure}
+use Rattle.refusal.specs.declared.failure.Failure.TheVariants.{Refused, NoMemory}
+use Rattle.roundcheck.specs.Checks.{Checks}
+use Rattle.roundcheck.specs.Finishing.{FilePlan, Behind, IfRefused, FinishedBy}
+use Rattle.roundcheck.specs.Runs.{Ending}
 use Rattle.roundcheck.specs.declared.report.Line.{Line}
-use Rattle.mixfile.specs.Mixing.{MixedBy, UnmixedBy}
+use Rattle.mixfile.specs.Mixing.{Mixed, Unmixed}
+use Rattle.mixfile.specs.Turns.{Served, UnservedAt}
 
-module _ (A B : List Line → Ending → Type 0) (P Q : ℕ → List Comparator → Type 0) (file p : List ℕ) (words : ℕ)
-    (f : (lines : List Line) (ending : Ending) → A lines ending → B lines ending) (h : (n : ℕ) (cs : List Comparator) → P n cs → Q n cs) where
-  mixed_more : (out : List ℕ) → MixedBy A P file p words out → MixedBy B Q file p words out
-  mixed_more out m = (m.0, m.1, m.2, m.3, h m.0 m.1 m.4, f m.2 _ m.5, m.6)
+module _ (file p : List ℕ) (words : ℕ) (lines : List Line) where
+  -- the lines are all of the file's own
+  own : (ending : Ending) → Behind [] (Checks file) lines ending → Checks file lines ending
+  own ending (rest, is, h) = subst (λ (xs : List Line). Checks file xs ending) (sym is) h
 
-  unmixed_more : (r : Refusal) → UnmixedBy A P file p words r → UnmixedBy B Q file p words r
-  unmixed_more r (inl x) = inl (x.0, f x.0 _ x.1)
-  unmixed_more r (inr x) = inr (x.0, x.1, x.2, x.3, x.4, h x.0 x.1 x.5, f x.2 _ x.6, x.7, x.8)
-
-  pub passed_on : {V E : Type 0} (items : V → List ℕ) (r : Result (Result V Refusal) E)
-      → IfOk r (λ a. MatchResult a (λ out. MixedBy A P file p words (items out)) (UnmixedBy A P file p words))
-      → IfOk r (λ a. MatchResult a (λ out. MixedBy B Q file p words (items out)) (UnmixedBy B Q file p words))
-  passed_on items (Ok (Ok out)) m = mixed_more (items out) m
-  passed_on items (Ok (Err r)) m = unmixed_more r m
-  passed_on items (Err e) m = tt
+  pub mixed_by : {V : Type 0} (items : V → List ℕ) (r : Result V Failure)
+      → FinishedBy (Behind [] (Checks file)) (FilePlan file) (λ n cs lines standing out. Served n cs lines (Ok standing) file p words (items out)) (λ n cs lines standing f. UnservedAt n cs lines (Ok standing) file p words f) lines r
+      → MatchResult r (λ out. Mixed file p words (items out)) (λ failure. IfRefused failure (Unmixed file p words))
+  mixed_by items (Ok out) (n, cs, standing, planned, checked, served) = (n, cs, lines, standing, planned, own (Ok standing) checked, served)
+  mixed_by items (Err (Refused f)) (inl checked) = inl (lines, own (Err f) checked)
+  mixed_by items (Err (Refused f)) (inr (n, cs, standing, planned, checked, (why, unserved, is))) =
+      inr (n, cs, lines, standing, why, planned, own (Ok standing) checked, unserved, is)
+  mixed_by items (Err (NoMemory e)) h = tt

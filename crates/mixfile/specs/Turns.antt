@@ -1,5 +1,5 @@
 -- A turn on a round file: where one begins, and the records that it adds.
-use Rattle.std.specs.Prelude.{◌≡◌, ℕ, ◌+◌, ◌-◌, ◌*◌, ◌<◌, ◌≤◌, Bool, true, false, ◌⊎◌, List, [], ◌∷◌, ◌++◌, length, take, drop, ◌==◌, nat_lt, slice_index_or}
+use Rattle.std.specs.Prelude.{◌≡◌, ℕ, ◌+◌, ◌-◌, ◌*◌, ◌<◌, ◌≤◌, Bool, true, false, ◌⊎◌, List, [], ◌∷◌, ◌++◌, Ok, Err, length, take, drop, ◌==◌, nat_lt, slice_index_or}
 use Rattle.std.specs.List.{flat_map}
 use Rattle.board.specs.Calls.{Terms, after_call}
 use Rattle.board.specs.Serving.{HonestStep}
@@ -16,11 +16,12 @@ use Rattle.plan.specs.declared.Comparator.{Comparator as Crossing}
 use Rattle.plan.specs.declared.Setting.{Setting}
 use Rattle.prover.specs.States.{message_meaning}
 use Rattle.prover.specs.declared.states.Message.{Message}
+use Rattle.refusal.specs.Table.{refused_at}
 use Rattle.refusal.specs.declared.Reason.{Reason}
 use Rattle.refusal.specs.declared.Reason.TheVariants.{NoRoundFile, UnfitNumber, UnfitLength, NoPermutation, WrongStage, BeyondReach}
+use Rattle.refusal.specs.declared.Refusal.{Refusal}
 use Rattle.roundcheck.specs.Events.{message_of}
-use Rattle.roundcheck.specs.declared.report.Ending.{Ending}
-use Rattle.roundcheck.specs.declared.report.Ending.TheVariants.{Judged, Refused}
+use Rattle.roundcheck.specs.Runs.{Ending}
 use Rattle.roundcheck.specs.declared.report.Line.{Line}
 use Rattle.roundcheck.specs.declared.report.Line.TheVariants.{Round, Post, Close, Step, Expel}
 use Rattle.roundfile.specs.Writing.{comparator_bytes}
@@ -68,8 +69,8 @@ goes_on Unfinished = true
 
 -- a server's turn begins behind the lines of a file that ended so
 abbrev pub turn_begins : List Line → Ending → ℕ → Bool
-turn_begins lines (Judged standing) count = both (goes_on standing.verdict) (last_ends lines count)
-turn_begins lines (Refused f) count = false
+turn_begins lines (Ok standing) count = both (goes_on standing.verdict) (last_ends lines count)
+turn_begins lines (Err f) count = false
 
 -- an entry for each of n wires, and six words for each comparator
 abbrev pub lengths_fit : ℕ → List Crossing → (permutation words : ℕ) → Bool
@@ -91,6 +92,9 @@ Ready n cs lines ending p words =
 abbrev pub Stopped : Reason → Type 0
 Stopped why = (why ≡ BeyondReach) ⊎ (why ≡ UnfitNumber) ⊎ (why ≡ WrongStage) ⊎ (why ≡ UnfitLength)
 
+abbrev pub StoppedAt : ℕ → Refusal → Type 0
+StoppedAt place f = (why : Reason) × Stopped why × (f ≡ refused_at why place)
+
 -- the file with a record for each comparator behind it
 abbrev pub Served : ℕ → List Crossing → List Line → Ending → List ℕ → List ℕ → ℕ → List ℕ → Type 0
 Served n cs lines ending file p words out =
@@ -103,3 +107,7 @@ Unserved n cs lines ending file p words why =
     Unready n cs lines ending p words why
     ⊎ (Ready n cs lines ending p words × Stopped why)
     ⊎ (Ready n cs lines ending p words × (65536 < length file + 51 * length cs) × (why ≡ NoRoundFile))
+
+-- the same, refused at the file's length
+abbrev pub UnservedAt : ℕ → List Crossing → List Line → Ending → List ℕ → List ℕ → ℕ → Refusal → Type 0
+UnservedAt n cs lines ending file p words f = (why : Reason) × Unserved n cs lines ending file p words why × (f ≡ refused_at why (length file))

@@ -3,5 +3,4 @@
 
 pub mod file;
 mod records;
-mod round;
 mod turn;

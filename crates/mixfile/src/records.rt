@@ -22,13 +22,10 @@ fn number_of<G: Group>(group: &G, element: G::Element) -> Result<u32, Reason>
     ensures { MatchResult result (λ n. G.Group.operations.code (G.Group.point element) ≡ four_bytes n) Stopped }
 {
     let mut code = [0u8; FOUR_BYTES];
-    if group.write(element, &mut code).is_err() {
-        return Err(Reason::UnfitLength);
-    }
-    match read_four_bytes(&code) {
-        Some(number) => Ok(number),
-        None => Err(Reason::UnfitLength),
-    }
+    group
+        .write(element, &mut code)
+        .map_err(|_| Reason::UnfitLength)?;
+    read_four_bytes(&code).ok_or(Reason::UnfitLength)
 }
 
 fn ciphertext_codes<G: Group>(
@@ -111,10 +108,7 @@ where
 fn challenge_of(challenge: u64) -> Result<u32, Reason>
     ensures { MatchResult result (λ n. n ≡ challenge) Stopped }
 {
-    if challenge >= 1 << 32 {
-        return Err(Reason::UnfitNumber);
-    }
-    Ok(challenge as u32)
+    u32::try_from(challenge).map_err(|_| Reason::UnfitNumber)
 }
 
 // The record that posts these codes.

@@ -4,10 +4,9 @@
 
 ghost use Rattle.std.specs.Prelude.{◌<◌, length, MatchOption};
 
-use anyhow::anyhow;
+use anyhow::Context;
 use clearing::clear;
 use mixfile::file::mix_file;
-use refusal::Refusal;
 use std::io::{Read, Write};
 use std::str::{SplitWhitespace, from_utf8};
 
@@ -28,12 +27,10 @@ struct Secrets {
 fn line_end(bytes: &[u8]) -> Option<usize>
     ensures { MatchOption result Unit (λ end. end < length bytes.now) }
 {
-    for end in 0..bytes.len() {
-        if end <= LONGEST_LINE && bytes[end] == b'\n' {
-            return Some(end);
-        }
-    }
-    None
+    bytes
+        .iter()
+        .take(LONGEST_LINE + 1)
+        .position(|byte| *byte == b'\n')
 }
 
 // The numbers before the slash; none where a part is no number, or there is no slash.
@@ -46,29 +43,28 @@ fn read_permutation(
         if part == "/" {
             return Ok(Some(entries));
         }
-        match part.parse::<usize>() {
-            Ok(entry) => entries.push(entry)?,
-            Err(_) => return Ok(None),
-        }
+        let Ok(entry) = part.parse::<usize>() else {
+            return Ok(None);
+        };
+        entries.push(entry)?;
     }
     Ok(None)
 }
 
 fn read_line(rt: &HostRuntime, line: &[u8]) -> anyhow::Result<Secrets> {
-    let Ok(text) = from_utf8(line) else {
-        return Err(anyhow!("the line is no text"));
-    };
+    let text = from_utf8(line).ok().context("the line is no text")?;
     let mut parts = text.split_whitespace();
-    let Some(permutation) = read_permutation(rt, &mut parts)? else {
-        return Err(anyhow!("the line has no permutation before a slash"));
-    };
+    let permutation = read_permutation(rt, &mut parts)?.context(
+        "the line has no permutation before a slash",
+    )?;
     // room for all from the start, so that no copy of them stays behind
     let mut words = Vec::with_capacity(rt.alloc(), line.len())?;
     for part in parts {
-        match part.parse::<u64>() {
-            Ok(word) => words.push(word)?,
-            Err(_) => return Err(anyhow!("a secret word is no number")),
-        }
+        let word = part
+            .parse::<u64>()
+            .ok()
+            .context("a secret word is no number")?;
+        words.push(word)?;
     }
     Ok(Secrets { permutation, words })
 }
@@ -82,10 +78,8 @@ fn read_input(rt: &HostRuntime) -> anyhow::Result<Vec<u8>> {
 }
 
 // Serves the turn that the bytes ask for; the line's secrets do not stay in them.
-fn serve(rt: &HostRuntime, bytes: &mut [u8]) -> anyhow::Result<Result<Vec<u8>, Refusal>> {
-    let Some(end) = line_end(bytes) else {
-        return Err(anyhow!("there is no line with a permutation and secret words"));
-    };
+fn serve(rt: &HostRuntime, bytes: &mut [u8]) -> anyhow::Result<Vec<u8>> {
+    let end = line_end(bytes).context("there is no line with a permutation and secret words")?;
     let secrets = read_line(rt, &bytes[..end]);
     clear(&mut bytes[..end]);
     let Secrets {
@@ -102,10 +96,8 @@ fn serve(rt: &HostRuntime, bytes: &mut [u8]) -> anyhow::Result<Result<Vec<u8>, R
 
 fn run(rt: &HostRuntime) -> anyhow::Result<()> {
     let mut bytes = read_input(rt)?;
-    match serve(rt, bytes.as_mut_slice())? {
-        Ok(mixed) => Ok(rt.stdout().write_all(mixed.as_slice())?),
-        Err(refusal) => Err(anyhow!("{refusal}")),
-    }
+    let mixed = serve(rt, bytes.as_mut_slice())?;
+    Ok(rt.stdout().write_all(mixed.as_slice())?)
 }
 
 fn main(rt: HostRuntime) -> anyhow::Result<()> {

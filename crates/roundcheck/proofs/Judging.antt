@@ -8,10 +8,9 @@ use Rattle.elgamal.specs.declared.Ciphertext.{Ciphertext}
 use Rattle.refusal.specs.Table.{refused_at}
 use Rattle.refusal.specs.declared.Reason.{Reason}
 use Rattle.refusal.specs.declared.Refusal.{Refusal}
-use Rattle.roundfile.specs.Reading.{Place, Found, gave, step}
+use Rattle.roundfile.specs.Reading.{Place, Found, Step, gave, step}
 use Rattle.roundcheck.specs.Events.{call_of, EventRead}
-use Rattle.roundcheck.specs.Runs.{JudgesCall, Judges, Ends, Runs}
-use Rattle.roundcheck.specs.declared.report.Ending.{Ending}
+use Rattle.roundcheck.specs.Runs.{Ending, JudgesCall, Judges, Ends, Runs}
 use Rattle.roundcheck.specs.declared.report.Line.{Line}
 
 module _ {Point : Type 0} (T : Terms Point) (number : ℕ → ℕ) where
@@ -52,6 +51,7 @@ module _ {Point : Type 0} (T : Terms Point) (number : ℕ → ℕ) where
       λ rest ending r. subst (λ (xs : List Line). Runs T number p₀ s₀ xs ending) (sym (append_assoc h.0 (line ∷ []) rest)) (h.2 (line ∷ rest) ending (f, q, s', st, judged, r)),
     )
 
-    pub stopped : (p : Place) (s : State (Ciphertext Point)) (now shown : List Line) (ending : Ending)
-        → SoFar p₀ s₀ before p s now → shown ≡ now → Ends T number s (step p) ending → (rest : List Line) × (shown ≡ before ++ rest) × Runs T number p₀ s₀ rest ending
-    stopped p s now shown ending h is e = (h.0, is ∙ h.1, subst (λ (xs : List Line). Runs T number p₀ s₀ xs ending) (append-nil h.0) (h.2 [] ending e))
+    pub stopped : (p : Place) (s : State (Ciphertext Point)) (now : List Line) (x : Step) (ending : Ending)
+        → SoFar p₀ s₀ before p s now → step p ≡ x → Ends T number s x ending → (rest : List Line) × (now ≡ before ++ rest) × Runs T number p₀ s₀ rest ending
+    stopped p s now x ending h is e =
+        (h.0, h.1, subst (λ (xs : List Line). Runs T number p₀ s₀ xs ending) (append-nil h.0) (h.2 [] ending (subst (λ (y : Step). Ends T number s y ending) (sym is) e)))

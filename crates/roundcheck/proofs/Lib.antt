@@ -1,3 +1,4 @@
 mod Reading
 mod Judging
+pub mod Failing
 pub mod Openings

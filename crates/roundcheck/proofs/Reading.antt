@@ -1,34 +1,51 @@
 -- What a call of the reader tells of the step that it made, and which records are not the wanted ones.
-use Rattle.std.proofs.Common.{◌≡◌, ℕ, Some, None, Ok, Err, refl, arith}
+use Rattle.std.proofs.Common.{◌≡◌, Some, None, Ok, Err, Option, ok_or, MatchResult, sym, refl, ap, subst}
 use Rattle.refusal.specs.Table.{refused_at}
 use Rattle.refusal.specs.declared.Reason.TheVariants.{MisplacedRecord}
 use Rattle.refusal.specs.declared.Refusal.{Refusal}
-use Rattle.roundfile.specs.Reading.{Place, Found, Step, gave, ended, refused, answer, left}
+use Rattle.roundfile.specs.Reading.{Place, Found, Step, gave, ended, refused, answer, left, found}
 use Rattle.roundfile.specs.Records.{content}
-use Rattle.roundfile.specs.declared.parts.OpeningPart.{OpeningPart}
-use Rattle.roundfile.specs.declared.parts.DrawsPart.{DrawsPart}
-use Rattle.roundfile.specs.declared.parts.PostPart.{PostPart}
+use Rattle.roundfile.specs.declared.reader.Entry.{Entry}
 use Rattle.roundfile.specs.declared.record.Record.{Record}
 use Rattle.roundfile.specs.declared.record.Record.TheVariants.{Opening, Draws, Post, Comparator, Close, Expel}
-use Rattle.roundcheck.specs.Checks.{opening_in, draws_in}
-use Rattle.roundcheck.specs.Runs.{post_in}
+use Rattle.roundcheck.specs.Checks.{NoneGiven, opening_in, next_opening, draws_in, next_draws}
+use Rattle.roundcheck.specs.Runs.{found_in}
 
 pub gave_by : (s : Step) (p q : Place) (f : Found) → Ok (Some f) ≡ answer s → q ≡ left p s → s ≡ gave f q
 gave_by (gave f' q') p q f e l = cc
-gave_by ended p q f e l = absurd (let z : ◌≡◌ {A = ℕ} 0 1 = cc in omega arith)
-gave_by (refused r) p q f e l = absurd (let z : ◌≡◌ {A = ℕ} 0 1 = cc in omega arith)
+gave_by ended p q f e l = cc
+gave_by (refused r) p q f e l = cc
 
 pub ended_by : (s : Step) → Ok None ≡ answer s → s ≡ ended
-ended_by (gave f q) e = absurd (let z : ◌≡◌ {A = ℕ} 0 1 = cc in omega arith)
+ended_by (gave f q) e = cc
 ended_by ended e = refl
-ended_by (refused r) e = absurd (let z : ◌≡◌ {A = ℕ} 0 1 = cc in omega arith)
+ended_by (refused r) e = cc
 
 pub refused_by : (s : Step) (r : Refusal) → Err r ≡ answer s → s ≡ refused r
-refused_by (gave f q) r e = absurd (let z : ◌≡◌ {A = ℕ} 0 1 = cc in omega arith)
-refused_by ended r e = absurd (let z : ◌≡◌ {A = ℕ} 0 1 = cc in omega arith)
+refused_by (gave f q) r e = cc
+refused_by ended r e = cc
 refused_by (refused r') r e = cc
 
-pub no_opening : (f : Found) (q : Place) (held : Record) → ((x : OpeningPart) → held ≡ Opening x → ⊥) → opening_in f q (content held) ≡ Err (refused_at MisplacedRecord f.offset)
+pub none_refused : (s : Step) (r : Refusal) → Err r ≡ answer s → NoneGiven s r
+none_refused s r e = subst (λ (x : Step). NoneGiven x r) (sym (refused_by s r e)) refl
+
+-- a record that has to come, or the refusal where the reader came to the end
+pub one_wanted : (s : Step) (p q : Place) (o : Option Entry) (r : Refusal) → found (Ok o) ≡ answer s → q ≡ left p s → r ≡ refused_at MisplacedRecord 0
+    → MatchResult (ok_or o r) (λ entry. s ≡ gave (found_in entry) q) (NoneGiven s)
+one_wanted s p q None r e l is = subst (λ (x : Step). NoneGiven x r) (sym (ended_by s e)) is
+one_wanted s p q (Some entry) r e l is = gave_by s p q (found_in entry) e l
+
+pub none_for_opening : (s : Step) (r : Refusal) → NoneGiven s r → next_opening s ≡ Err r
+none_for_opening (gave f q) r h = absurd h
+none_for_opening ended r h = ap Err (sym h)
+none_for_opening (refused e) r h = ap Err (sym h)
+
+pub none_for_draws : (s : Step) (r : Refusal) → NoneGiven s r → next_draws s ≡ Err r
+none_for_draws (gave f q) r h = absurd h
+none_for_draws ended r h = ap Err (sym h)
+none_for_draws (refused e) r h = ap Err (sym h)
+
+pub no_opening : (f : Found) (q : Place) (held : Record) → ((x : _) → held ≡ Opening x → ⊥) → opening_in f q (content held) ≡ Err (refused_at MisplacedRecord f.offset)
 no_opening f q (Opening x) apart = absurd (apart x refl)
 no_opening f q (Draws x) apart = refl
 no_opening f q (Post x) apart = refl
@@ -36,18 +53,10 @@ no_opening f q (Comparator x) apart = refl
 no_opening f q Close apart = refl
 no_opening f q Expel apart = refl
 
-pub no_draws : (f : Found) (q : Place) (held : Record) → ((x : DrawsPart) → held ≡ Draws x → ⊥) → draws_in f q (content held) ≡ Err (refused_at MisplacedRecord f.offset)
+pub no_draws : (f : Found) (q : Place) (held : Record) → ((x : _) → held ≡ Draws x → ⊥) → draws_in f q (content held) ≡ Err (refused_at MisplacedRecord f.offset)
 no_draws f q (Opening x) apart = refl
 no_draws f q (Draws x) apart = absurd (apart x refl)
 no_draws f q (Post x) apart = refl
 no_draws f q (Comparator x) apart = refl
 no_draws f q Close apart = refl
 no_draws f q Expel apart = refl
-
-pub no_post : (held : Record) → ((x : PostPart) → held ≡ Post x → ⊥) → record { alpha = 1; beta = 1 } ≡ post_in (content held)
-no_post (Opening x) apart = refl
-no_post (Draws x) apart = refl
-no_post (Post x) apart = absurd (apart x refl)
-no_post (Comparator x) apart = refl
-no_post Close apart = refl
-no_post Expel apart = refl

@@ -1,16 +1,16 @@
 -- The check of a whole file: the opening, both draws, and the run of the other records.
-use Rattle.std.specs.Prelude.{◌≡◌, ℕ, ◌^◌, ◌≤◌, true, false, cond, ◌⊎◌, List, [], ◌∷◌, map, Some, None, Ok, Err, Option, Result, ◌==◌, ◌≢◌}
-use Rattle.std.specs.List.{range_with_len}
-use Rattle.std.specs.Option.{unwrap_or}
+use Rattle.std.specs.Prelude.{◌≡◌, ℕ, true, false, ◌⊎◌, List, [], ◌∷◌, Some, None, Ok, Err, Option, Result, ◌≢◌}
 use Rattle.board.specs.Calls.{Terms, terms}
 use Rattle.board.specs.Rounds.{judge_open, servers_fit, blank}
 use Rattle.board.specs.States.{State, opened}
-use Rattle.butterfly.specs.Listing.{butterfly}
-use Rattle.chain.specs.Listing.{chain, Fits}
 use Rattle.elgamal.specs.declared.Ciphertext.{Ciphertext}
 use Rattle.group.specs.Codes.{four_bytes}
 use Rattle.group.specs.Exponents.{Exponents}
 use Rattle.group.specs.Operations.{Operations}
+use Rattle.kinds.specs.Kinds.{group_kind, plan_kind, LaidOut}
+use Rattle.kinds.specs.declared.GroupKind.{GroupKind}
+use Rattle.kinds.specs.declared.GroupKind.TheVariants.{ResiduesModulo23, BinaryPolynomials}
+use Rattle.kinds.specs.declared.PlanKind.{PlanKind}
 use Rattle.modular.specs.Modular.{modular}
 use Rattle.modular.specs.Residues.{residues}
 use Rattle.plan.specs.declared.Comparator.{Comparator}
@@ -19,32 +19,20 @@ use Rattle.refusal.specs.Table.{refused_at}
 use Rattle.refusal.specs.declared.Reason.{Reason}
 use Rattle.refusal.specs.declared.Reason.TheVariants.{MisplacedRecord, UnknownGroupOrPlan, UnfitWires, UnfitServers, NoElement}
 use Rattle.refusal.specs.declared.Refusal.{Refusal}
-use Rattle.roundfile.specs.Fields.{opening_of, field, word, default_number}
+use Rattle.roundfile.specs.Fields.{opening_of, words_in}
 use Rattle.roundfile.specs.Reading.{Place, Found, Step, gave, ended, refused, step, open_file}
 use Rattle.roundfile.specs.Records.{Content, opening, draws, post, comparator, close, expel}
 use Rattle.roundfile.specs.declared.parts.Opening.{Opening}
 use Rattle.source.specs.Words.{Words, tape, joined}
-use Rattle.roundcheck.specs.Runs.{Runs}
-use Rattle.roundcheck.specs.declared.kinds.GroupKind.{GroupKind}
-use Rattle.roundcheck.specs.declared.kinds.GroupKind.TheVariants.{ResiduesModulo23, BinaryPolynomials}
-use Rattle.roundcheck.specs.declared.kinds.PlanKind.{PlanKind}
-use Rattle.roundcheck.specs.declared.kinds.PlanKind.TheVariants.{Chain, Butterfly}
-use Rattle.roundcheck.specs.declared.report.Ending.{Ending}
-use Rattle.roundcheck.specs.declared.report.Ending.TheVariants.{Refused}
+use Rattle.roundcheck.specs.Runs.{Ending, Runs}
 use Rattle.roundcheck.specs.declared.report.Line.{Line}
 use Rattle.roundcheck.specs.declared.report.Line.TheVariants.{Round}
 
--- the groups and plans that an opening can name
-abbrev pub group_kind : ℕ → Option GroupKind
-group_kind n = cond (n == 1) (Some ResiduesModulo23) (cond (n == 2) (Some BinaryPolynomials) None)
-
-abbrev pub plan_kind : ℕ → Option PlanKind
-plan_kind n = cond (n == 1) (Some Chain) (cond (n == 2) (Some Butterfly) None)
-
--- the plan of a kind over n wires lists these comparators
-abbrev pub LaidOut : PlanKind → ℕ → List Comparator → Type 0
-LaidOut Chain n cs = Fits n × (cs ≡ chain n)
-LaidOut Butterfly n cs = (k : ℕ) × (1 ≤ k) × (k ≤ 6) × (2 ^ k ≡ n) × (cs ≡ butterfly k)
+-- A reader that gives no record where one has to come.
+abbrev pub NoneGiven : Step → Refusal → Type 0
+NoneGiven (gave f q) r = ⊥
+NoneGiven ended r = r ≡ refused_at MisplacedRecord 0
+NoneGiven (refused e) r = r ≡ e
 
 -- An opening or draws, with their offset and the place behind them. A reader whose file still wants one of these gives no other
 -- record and does not come to the end.
@@ -61,10 +49,6 @@ next_opening (gave f q) = opening_in f q f.holds
 next_opening ended = Err (refused_at MisplacedRecord 0)
 next_opening (refused r) = Err r
 
--- the words of draws
-abbrev pub words_in : ℕ → List ℕ → List ℕ
-words_in bits fields = map (λ i. unwrap_or (word fields i) 0) (range_with_len 0 (field bits fields 0 default_number))
-
 abbrev pub draws_in : Found → Place → Content → Result (List ℕ × Place) Refusal
 draws_in f q (opening map fields) = Err (refused_at MisplacedRecord f.offset)
 draws_in f q (draws map fields) = Ok (words_in map fields, q)
@@ -80,7 +64,7 @@ next_draws (refused r) = Err r
 
 -- no line, and this refusal
 abbrev pub Stops : Refusal → List Line → Ending → Type 0
-Stops r lines ending = (lines ≡ []) × (ending ≡ Refused r)
+Stops r lines ending = (lines ≡ []) × (ending ≡ Err r)
 
 -- both draws, joined, and the run of the other records
 abbrev pub ChecksSecond : {Point : Type 0} → (ℕ → ℕ) → (Words → Terms Point) → State (Ciphertext Point) → List ℕ → Result (List ℕ × Place) Refusal → List Line → Ending → Type 0

@@ -2,3 +2,4 @@ pub mod Texts
 pub mod Events
 pub mod Runs
 pub mod Checks
+pub mod Finishing

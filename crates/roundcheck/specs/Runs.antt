@@ -6,6 +6,7 @@ use Rattle.board.specs.States.{State}
 use Rattle.board.specs.declared.events.Event.{Event}
 use Rattle.board.specs.declared.events.Taken.{Taken}
 use Rattle.board.specs.declared.events.Taken.TheVariants.{Posted, Closed, Stepped, Expelled}
+use Rattle.board.specs.declared.verdict.Standing.{Standing}
 use Rattle.elgamal.specs.declared.Ciphertext.{Ciphertext}
 use Rattle.refusal.specs.Table.{refused_at}
 use Rattle.refusal.specs.declared.Reason.{Reason}
@@ -17,10 +18,12 @@ use Rattle.roundfile.specs.Records.{Content, content, opening, draws, post, comp
 use Rattle.roundfile.specs.declared.parts.Post.{Post}
 use Rattle.roundfile.specs.declared.reader.Entry.{Entry}
 use Rattle.roundcheck.specs.Events.{call_of, EventRead}
-use Rattle.roundcheck.specs.declared.report.Ending.{Ending}
-use Rattle.roundcheck.specs.declared.report.Ending.TheVariants.{Judged, Refused}
 use Rattle.roundcheck.specs.declared.report.Line.{Line}
 use Rattle.roundcheck.specs.declared.report.Line.TheVariants.{Post as PostLine, Close as CloseLine, Step as StepLine, Expel as ExpelLine}
+
+-- How a file ends: it was read to its end and stands so, or it is refused.
+abbrev pub Ending : Type 0
+Ending = Result Standing Refusal
 
 -- a record of the code with its offset
 abbrev pub found_in : Entry → Found
@@ -59,9 +62,9 @@ module _ {Point : Type 0} (T : Terms Point) (number : ℕ → ℕ) where
 
   -- how a run ends where the reader's next step is this one
   abbrev pub Ends : State (Ciphertext Point) → Step → Ending → Type 0
-  Ends s (gave f q) ending = (r : Refusal) × Judges s f (Err r) s × (ending ≡ Refused r)
-  Ends s ended ending = ending ≡ Judged (standing_of s)
-  Ends s (refused r) ending = ending ≡ Refused r
+  Ends s (gave f q) ending = (r : Refusal) × Judges s f (Err r) s × (ending ≡ Err r)
+  Ends s ended ending = ending ≡ Ok (standing_of s)
+  Ends s (refused r) ending = ending ≡ Err r
 
   -- From a place of the reader and a state of the board on: each line is that of a record that was taken, and then the run ends.
   abbrev pub Runs : Place → State (Ciphertext Point) → List Line → Ending → Type 0

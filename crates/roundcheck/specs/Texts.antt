@@ -1,11 +1,11 @@
 -- The lines that are printed of a round.
-use Rattle.std.specs.Prelude.{ℕ, List, [], ◌∷◌, ◌++◌, codes, decimal}
+use Rattle.std.specs.Prelude.{ℕ, List, [], ◌∷◌, ◌++◌, Ok, Err, codes, decimal}
 use Rattle.std.specs.List.{flat_map}
+use Rattle.board.specs.declared.verdict.Standing.{Standing}
 use Rattle.board.specs.declared.verdict.Verdict.{Verdict}
 use Rattle.board.specs.declared.verdict.Verdict.TheVariants.{Stands, Void, Unfinished}
 use Rattle.refusal.specs.Text.{refusal_text}
-use Rattle.roundcheck.specs.declared.report.Ending.{Ending}
-use Rattle.roundcheck.specs.declared.report.Ending.TheVariants.{Judged, Refused}
+use Rattle.roundcheck.specs.Runs.{Ending}
 use Rattle.roundcheck.specs.declared.report.Line.{Line}
 use Rattle.roundcheck.specs.declared.report.Line.TheVariants.{Round, Post, Close, Step, Expel}
 
@@ -23,9 +23,12 @@ verdict_text Stands = codes "stands"
 verdict_text Void = codes "void"
 verdict_text Unfinished = codes "open"
 
+abbrev pub standing_text : Standing → List ℕ
+standing_text s = verdict_text s.verdict ++ (codes " " ++ (decimal s.completed ++ (codes " " ++ decimal s.servers)))
+
 abbrev pub ending_text : Ending → List ℕ
-ending_text (Judged s) = verdict_text s.verdict ++ (codes " " ++ (decimal s.completed ++ (codes " " ++ decimal s.servers)))
-ending_text (Refused r) = refusal_text r
+ending_text (Ok s) = standing_text s
+ending_text (Err r) = refusal_text r
 
 -- a newline behind each line
 abbrev pub lines_text : List Line → List ℕ

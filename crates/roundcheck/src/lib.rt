@@ -3,7 +3,7 @@
 
 mod events;
 pub mod file;
-pub mod kinds;
+pub mod finish;
 pub mod records;
 pub mod report;
 pub mod round;

@@ -1,27 +1,29 @@
 // The records of a round, run on a board.
-ghost use Rattle.std.specs.Prelude.{◌≡◌, ◌*◌, List, ◌++◌, length, IfOk};
+ghost use Rattle.std.specs.Prelude.{◌≡◌, ◌*◌, length};
 ghost use Rattle.board.specs.Calls.{terms};
 ghost use Rattle.board.specs.States.{view, state_map};
 ghost use Rattle.elgamal.specs.Ciphertexts.{meaning};
 ghost use Rattle.roundfile.specs.Reading.{place};
 ghost use Rattle.roundfile.specs.Records.{content};
+ghost use Rattle.roundcheck.specs.Finishing.{Behind, EndsBy};
 ghost use Rattle.roundcheck.specs.Runs.{post_in, line_of, found_in, Judges, Runs};
-ghost use Rattle.roundcheck.specs.declared.report.Line.{Line};
 
 use crate::events::{call_of, read_event};
-use crate::report::{Ending, Line, Report};
+use crate::report::Line;
 use board::board::Board;
 use board::board::call::call;
 use board::events::Taken;
+use board::setup::Setup;
+use board::verdict::Standing;
 use group::{Exponent, Group};
 use law::judge_round;
 use plan::Plan;
-use refusal::{Reason, Refusal};
+use refusal::{Failure, Reason, Refusal};
 use roundfile::parts::Post;
 use roundfile::reader::{Entry, Reader};
 use roundfile::record::Record;
 use source::Source;
-use std::alloc::{AllocError, Global};
+use std::alloc::Global;
 
 // The codes that a post has; 1 and 1 in any other record.
 fn post_in(held: Record) -> Post
@@ -48,83 +50,55 @@ fn line_of(held: Record, taken: Taken) -> Line
 // Judges a record as a call on the board: its codes, and then the call. A refusal carries the record's offset.
 fn judge_record<G: Group, P: Plan, S: Source>(
     board: &mut Board<'_, G::Element>,
-    group: &G,
-    plan: &P,
-    source: &S,
+    setup: &Setup<'_, G, P, S>,
     entry: Entry,
     buffer: &mut [u8],
 ) -> Result<Line, Refusal>
 where
     G::Exponent: Exponent<Posted = u32>,
     requires { length buffer.old ≡ 11 * G.Group.operations.width }
-    ensures judged { Judges (terms G.Group.operations G.Exponent.Exponent.exponents (S.Source.words source.now) (G.Group.point board.old.key) (P.Plan.listing plan.now)) G.Exponent.Exponent.number (state_map (meaning G.Group.point) (view board.old)) (found_in entry.entry) result (state_map (meaning G.Group.point) (view board.new)) }
+    ensures judged { Judges (terms G.Group.operations G.Exponent.Exponent.exponents (S.Source.words setup.now.source.now) (G.Group.point board.old.key) (P.Plan.listing setup.now.plan.now)) G.Exponent.Exponent.number (state_map (meaning G.Group.point) (view board.old)) (found_in entry.entry) result (state_map (meaning G.Group.point) (view board.new)) }
     ensures key { board.new.key ≡ board.old.key }
 {
     let Entry { offset, record } = entry;
-    let Some(codes) = call_of(record) else {
-        return Err(Reason::MisplacedRecord.at(offset));
-    };
-    let event = read_event(group, codes, offset)?;
-    match call(board, group, plan, source, event, buffer) {
-        Ok(taken) => Ok(line_of(record, taken)),
-        Err(refusal) => Err(refusal.reason.at(offset)),
-    }
+    let codes = call_of(record).ok_or(Reason::MisplacedRecord.at(offset))?;
+    let event = read_event(setup.group, codes, offset)?;
+    let taken = call(board, setup, event, buffer).map_err(|refusal| refusal.reason.at(offset))?;
+    Ok(line_of(record, taken))
 }
 
 // Runs the records from the reader's place on, and adds a line for each that is taken.
 fn run_records<G: Group, P: Plan, S: Source>(
     board: &mut Board<'_, G::Element>,
-    group: &G,
-    plan: &P,
-    source: &S,
+    setup: &Setup<'_, G, P, S>,
     mut reader: Reader,
     buffer: &mut [u8],
-    mut lines: Vec<Line>,
-) -> Result<Report, AllocError>
+    lines: &mut Vec<Line>,
+) -> Result<Standing, Failure>
 where
     G::Exponent: Exponent<Posted = u32>,
     requires { length buffer.old ≡ 11 * G.Group.operations.width }
-    ensures { IfOk result (λ report. (rest : List Line) × (report.lines.items ≡ lines.items ++ rest) × Runs (terms G.Group.operations G.Exponent.Exponent.exponents (S.Source.words source.now) (G.Group.point board.old.key) (P.Plan.listing plan.now)) G.Exponent.Exponent.number (place reader.entry) (state_map (meaning G.Group.point) (view board.old)) rest report.ending) }
+    ensures { EndsBy result (Behind lines.old.items (Runs (terms G.Group.operations G.Exponent.Exponent.exponents (S.Source.words setup.now.source.now) (G.Group.point board.old.key) (P.Plan.listing setup.now.plan.now)) G.Exponent.Exponent.number (place reader.entry) (state_map (meaning G.Group.point) (view board.old))) lines.new.items) }
 {
-    loop {
-        let next = match reader.next_record() {
-            Ok(next) => next,
-            Err(refusal) => return Ok(Report::refused(lines, refusal)),
-        };
-        let Some(entry) = next else {
-            let standing = judge_round(board, group, plan, source);
-            let ending = Ending::Judged(standing);
-            return Ok(Report { lines, ending });
-        };
-        match judge_record(board, group, plan, source, entry, buffer) {
-            Ok(line) => lines.push(line)?,
-            Err(refusal) => return Ok(Report::refused(lines, refusal)),
-        }
+    while let Some(entry) = reader.next_record()? {
+        let line = judge_record(board, setup, entry, buffer)?;
+        lines.push(line)?;
     }
+    Ok(judge_round(board, setup))
 }
 
 // The same, with a posting buffer of its own.
 pub fn run_round<G: Group, P: Plan, S: Source>(
     heap: Global,
     board: &mut Board<'_, G::Element>,
-    group: &G,
-    plan: &P,
-    source: &S,
+    setup: &Setup<'_, G, P, S>,
     reader: Reader,
-    lines: Vec<Line>,
-) -> Result<Report, AllocError>
+    lines: &mut Vec<Line>,
+) -> Result<Standing, Failure>
 where
     G::Exponent: Exponent<Posted = u32>,
-    ensures { IfOk result (λ report. (rest : List Line) × (report.lines.items ≡ lines.items ++ rest) × Runs (terms G.Group.operations G.Exponent.Exponent.exponents (S.Source.words source.now) (G.Group.point board.old.key) (P.Plan.listing plan.now)) G.Exponent.Exponent.number (place reader.entry) (state_map (meaning G.Group.point) (view board.old)) rest report.ending) }
+    ensures { EndsBy result (Behind lines.old.items (Runs (terms G.Group.operations G.Exponent.Exponent.exponents (S.Source.words setup.now.source.now) (G.Group.point board.old.key) (P.Plan.listing setup.now.plan.now)) G.Exponent.Exponent.number (place reader.entry) (state_map (meaning G.Group.point) (view board.old))) lines.new.items) }
 {
-    let mut buffer = vec![in heap; 0u8; 11 * group.code_width()]?;
-    run_records(
-        board,
-        group,
-        plan,
-        source,
-        reader,
-        buffer.as_mut_slice(),
-        lines,
-    )
+    let mut buffer = vec![in heap; 0u8; 11 * setup.group.code_width()]?;
+    run_records(board, setup, reader, buffer.as_mut_slice(), lines)
 }

@@ -1,7 +1,6 @@
 // What the check of a file answers: a line for each record that was taken, and how it ended.
 ghost use Rattle.std.specs.Prelude.{◌≡◌, IfOk, Some, string_bytes};
-ghost use Rattle.roundcheck.specs.Texts.{line_text, verdict_text, ending_text, report_text};
-ghost use Rattle.roundcheck.specs.declared.report.Ending.TheVariants.{Refused};
+ghost use Rattle.roundcheck.specs.Texts.{line_text, verdict_text, standing_text, report_text};
 
 use board::verdict::{Standing, Verdict};
 use plan::Comparator;
@@ -22,29 +21,11 @@ pub enum Line {
     Expel(usize),
 }
 
-#[derive(Clone, Copy)]
-pub enum Ending {
-    // the file was read to its end
-    Judged(Standing),
-    Refused(Refusal),
-}
-
 #[derive(Drop)]
 pub struct Report {
     pub lines: Vec<Line>,
-    pub ending: Ending,
-}
-
-impl Report {
-    // These lines, and then a refusal.
-    pub(crate) fn refused(lines: Vec<Line>, refusal: Refusal) -> Report
-        ensures { (result.lines.items ≡ lines.items) × (result.ending ≡ Refused refusal) }
-    {
-        Report {
-            lines,
-            ending: Ending::Refused(refusal),
-        }
-    }
+    // how the round stands where the file was read to its end, or the refusal
+    pub ending: Result<Standing, Refusal>,
 }
 
 impl Report {
@@ -56,7 +37,10 @@ impl Report {
         for line in self.lines.as_slice() {
             text.writeln(*line)?;
         }
-        text.writeln(self.ending)?;
+        match self.ending {
+            Ok(standing) => text.writeln(Judged(standing))?,
+            Err(refusal) => text.writeln(refusal)?,
+        }
         Ok(text)
     }
 }
@@ -101,21 +85,20 @@ fn word_of(verdict: Verdict) -> &'static str
     }
 }
 
-impl fmt::Display for Ending {
-    ghost output = { λ x. Some (ending_text x) };
+// The last line of a file that was read to its end.
+#[derive(Clone, Copy)]
+struct Judged(Standing);
+
+impl fmt::Display for Judged {
+    ghost output = { λ x. Some (standing_text x.0) };
 
     fn fmt<W: fmt::Write>(&self, f: &mut fmt::Formatter<W>) -> fmt::Result {
-        match *self {
-            Ending::Judged(standing) => {
-                let Standing {
-                    verdict,
-                    completed,
-                    servers,
-                } = standing;
-                let word = word_of(verdict);
-                write!(f, "{word} {completed} {servers}")
-            }
-            Ending::Refused(refusal) => write!(f, "{refusal}"),
-        }
+        let Standing {
+            verdict,
+            completed,
+            servers,
+        } = self.0;
+        let word = word_of(verdict);
+        write!(f, "{word} {completed} {servers}")
     }
 }

@@ -1,51 +1,58 @@
 // One round, from its opening on, over any group and plan.
-ghost use Rattle.std.specs.Prelude.{◌≡◌, List, ◌++◌, replicate, IfOk, MatchResult};
+ghost use Rattle.std.specs.Prelude.{◌≡◌, ℕ, List, replicate, IfOk, MatchResult};
 ghost use Rattle.board.specs.Calls.{terms};
 ghost use Rattle.board.specs.States.{view, state_map};
 ghost use Rattle.elgamal.specs.Ciphertexts.{meaning};
+ghost use Rattle.kinds.specs.Kinds.{plan_kind};
 ghost use Rattle.roundfile.specs.Reading.{place, step};
-ghost use Rattle.roundcheck.specs.Checks.{ChecksFirst, ChecksRound, ChecksPlan, KeyRead, KeyUnread, next_draws, plan_kind};
-ghost use Rattle.roundcheck.specs.declared.report.Line.{Line};
+ghost use Rattle.roundcheck.specs.Checks.{Checks, ChecksFirst, ChecksRound, ChecksPlan, KeyRead, KeyUnread, next_draws};
+ghost use Rattle.roundcheck.specs.Finishing.{OpeningPlan, FilePlan, Behind, FinishedBy};
 
-use crate::kinds::PlanKind;
+use crate::finish::Finish;
 use crate::records::run_round;
-use crate::report::{Line, Report};
-use crate::wanted::{next_draws, words_of};
+use crate::report::Line;
+use crate::wanted::{next_draws, next_opening, words_of};
 use board::board::Board;
 use board::board::round::{open, servers_fit};
-use butterfly::Butterfly;
-use chain::Chain;
+use board::setup::Setup;
 use elgamal::Ciphertext;
 use group::reading::read_number;
 use group::{Exponent, Group};
+use kinds::{GroupKind, KnownPlan, PlanKind};
+use modular::modulo23::RESIDUES_MODULO_23;
 use plan::Plan;
-use refusal::{Reason, Refusal};
+use polynomial::Polynomials;
+use refusal::{Failure, Reason, Refusal};
 use roundfile::parts::Opening;
 use roundfile::reader::Reader;
 use source::{Joint, Tape};
 use std::alloc::{AllocError, Global};
 
-// Reads both draws, and runs the records behind them on their joint source.
-fn check_drawn<G: Group, P: Plan>(
+// A file whose opening was read: the opening with its offset, and what is still to be read.
+#[derive(Clone, Copy)]
+struct OpenedFile<'a> {
+    offset: usize,
+    opening: Opening,
+    reader: Reader<'a>,
+}
+
+// Reads both draws, runs the records behind them on their joint source, and then does what is to be done.
+fn finish_drawn<G: Group, P: Plan, F: Finish>(
     heap: Global,
     board: &mut Board<'_, G::Element>,
     group: &G,
     plan: &P,
     mut reader: Reader,
-    lines: Vec<Line>,
-) -> Result<Report, AllocError>
+    lines: &mut Vec<Line>,
+    end: F,
+) -> Result<F::Answer, Failure>
 where
     G::Exponent: Exponent<Posted = u32>,
-    ensures { IfOk result (λ report. (rest : List Line) × (report.lines.items ≡ lines.items ++ rest) × ChecksFirst G.Exponent.Exponent.number (λ S. terms G.Group.operations G.Exponent.Exponent.exponents S (G.Group.point board.old.key) (P.Plan.listing plan.now)) (state_map (meaning G.Group.point) (view board.old)) (next_draws (step (place reader.entry))) rest report.ending) }
+    ensures { FinishedBy (Behind lines.old.items (ChecksFirst G.Exponent.Exponent.number (λ S. terms G.Group.operations G.Exponent.Exponent.exponents S (G.Group.point board.old.key) (P.Plan.listing plan.now)) (state_map (meaning G.Group.point) (view board.old)) (next_draws (step (place reader.entry)))))
+        (λ n cs. (n ≡ P.Plan.width plan.now) × (cs ≡ P.Plan.listing plan.now)) (F.answers end) (F.refuses end) lines.new.items result }
 {
-    let first = match next_draws(&mut reader) {
-        Ok(part) => part,
-        Err(refusal) => return Ok(Report::refused(lines, refusal)),
-    };
-    let second = match next_draws(&mut reader) {
-        Ok(part) => part,
-        Err(refusal) => return Ok(Report::refused(lines, refusal)),
-    };
+    let first = next_draws(&mut reader)?;
+    let second = next_draws(&mut reader)?;
     let first = words_of(heap, first)?;
     let second = words_of(heap, second)?;
     let source = Joint {
@@ -56,7 +63,13 @@ where
             words: second.as_slice(),
         },
     };
-    run_round(heap, board, group, plan, &source, reader, lines)
+    let setup = Setup {
+        group,
+        plan,
+        source: &source,
+    };
+    let standing = run_round(heap, board, &setup, reader, lines)?;
+    end.finish(heap, board, &setup, lines.as_slice(), standing)
 }
 
 // The opening's key, once its servers are judged.
@@ -74,78 +87,95 @@ pub fn repeated<T: Copy>(heap: Global, item: T, count: usize) -> Result<Vec<T>, 
     ensures { IfOk result (λ list. list.items ≡ replicate count item) }
 {
     let mut list = Vec::new(heap);
-    for _ in 0..count {
-        list.push(item)?;
-    }
+    list.resize(count, item)?;
     Ok(list)
 }
 
-// Opens a board on a plan, and checks what is behind the opening.
-fn check_round<G: Group, P: Plan>(
-    heap: Global,
-    group: &G,
-    plan: &P,
-    opening: Opening,
-    offset: usize,
-    reader: Reader,
-) -> Result<Report, AllocError>
-where
-    G::Exponent: Exponent<Posted = u32>,
-    ensures { IfOk result (λ report. ChecksRound G.Group.operations G.Exponent.Exponent.exponents G.Exponent.Exponent.number (P.Plan.width plan.now) (P.Plan.listing plan.now) offset opening (place reader.entry) report.lines.items report.ending) }
-{
-    let mut lines = Vec::new(heap);
-    let key = match read_key(group, opening, offset) {
-        Ok(key) => key,
-        Err(refusal) => return Ok(Report::refused(lines, refusal)),
-    };
-    let one = group.one();
-    let item = Ciphertext {
-        alpha: one,
-        beta: one,
-    };
-    let mut wires = repeated(heap, item, plan.wires())?;
-    let mut start = repeated(heap, item, plan.wires())?;
-    let servers = opening.servers as usize;
-    let mut board = match open(
-        group,
-        plan,
-        key,
-        servers,
-        wires.as_mut_slice(),
-        start.as_mut_slice(),
-    ) {
-        Ok(board) => board,
-        Err(refusal) => return Ok(Report::refused(lines, refusal.reason.at(offset))),
-    };
-    lines.push(Line::Round(opening))?;
-    check_drawn(heap, &mut board, group, plan, reader, lines)
+impl<'a> OpenedFile<'a> {
+    // Opens a board on a plan, and goes on with what is behind the opening.
+    fn finish_on<G: Group, P: Plan, F: Finish>(
+        self,
+        heap: Global,
+        group: &G,
+        plan: &P,
+        lines: &mut Vec<Line>,
+        end: F,
+    ) -> Result<F::Answer, Failure>
+    where
+        G::Exponent: Exponent<Posted = u32>,
+        ensures { FinishedBy (Behind lines.old.items (ChecksRound G.Group.operations G.Exponent.Exponent.exponents G.Exponent.Exponent.number (P.Plan.width plan.now) (P.Plan.listing plan.now) self.entry.offset self.entry.opening (place self.entry.reader)))
+            (λ n cs. (n ≡ P.Plan.width plan.now) × (cs ≡ P.Plan.listing plan.now)) (F.answers end) (F.refuses end) lines.new.items result }
+    {
+        let OpenedFile {
+            offset,
+            opening,
+            reader,
+        } = self;
+        let key = read_key(group, opening, offset)?;
+        let one = group.one();
+        let item = Ciphertext {
+            alpha: one,
+            beta: one,
+        };
+        let mut wires = repeated(heap, item, plan.wires())?;
+        let mut start = repeated(heap, item, plan.wires())?;
+        let mut board = open(
+            group,
+            plan,
+            key,
+            opening.servers as usize,
+            wires.as_mut_slice(),
+            start.as_mut_slice(),
+        )
+        .map_err(|refusal| refusal.reason.at(offset))?;
+        lines.push(Line::Round(opening))?;
+        finish_drawn(heap, &mut board, group, plan, reader, lines, end)
+    }
+
+    // Goes on with the plan that the opening names.
+    fn finish_in<G: Group, F: Finish>(
+        self,
+        heap: Global,
+        group: &G,
+        lines: &mut Vec<Line>,
+        end: F,
+    ) -> Result<F::Answer, Failure>
+    where
+        G::Exponent: Exponent<Posted = u32>,
+        ensures { FinishedBy (Behind lines.old.items (ChecksPlan G.Group.operations G.Exponent.Exponent.exponents G.Exponent.Exponent.number (plan_kind self.entry.opening.plan) self.entry.offset self.entry.opening (place self.entry.reader)))
+            (OpeningPlan self.entry.opening) (F.answers end) (F.refuses end) lines.new.items result }
+    {
+        let OpenedFile {
+            offset,
+            opening,
+            ..
+        } = self;
+        let kind = PlanKind::try_from(opening.plan).map_err(|reason| reason.at(offset))?;
+        let plan = KnownPlan::new(kind, opening.wires as usize).map_err(|refusal| refusal
+            .reason
+            .at(offset))?;
+        self.finish_on(heap, group, &plan, lines, end)
+    }
 }
 
-// Checks a round on the plan that its opening names.
-pub(crate) fn check_plan<G: Group>(
+// Runs a file's records on a board, adds a line for each that is taken, and does at the end what is to be done there.
+pub fn finish_file<F: Finish>(
     heap: Global,
-    group: &G,
-    opening: Opening,
-    offset: usize,
-    reader: Reader,
-) -> Result<Report, AllocError>
-where
-    G::Exponent: Exponent<Posted = u32>,
-    ensures { IfOk result (λ report. ChecksPlan G.Group.operations G.Exponent.Exponent.exponents G.Exponent.Exponent.number (plan_kind opening.plan) offset opening (place reader.entry) report.lines.items report.ending) }
+    file: &[u8],
+    lines: &mut Vec<Line>,
+    end: F,
+) -> Result<F::Answer, Failure>
+    ensures { FinishedBy (Behind lines.old.items (Checks file.now)) (FilePlan file.now) (F.answers end) (F.refuses end) lines.new.items result }
 {
-    let Some(kind) = PlanKind::of_number(opening.plan) else {
-        let refusal = Reason::UnknownGroupOrPlan.at(offset);
-        return Ok(Report::refused(Vec::new(heap), refusal));
+    let mut reader = Reader::new(file)?;
+    let (offset, opening) = next_opening(&mut reader)?;
+    let opened = OpenedFile {
+        offset,
+        opening,
+        reader,
     };
-    let wires = opening.wires as usize;
-    match kind {
-        PlanKind::Chain => match Chain::new(wires) {
-            Ok(plan) => check_round(heap, group, &plan, opening, offset, reader),
-            Err(refusal) => Ok(Report::refused(Vec::new(heap), refusal.reason.at(offset))),
-        },
-        PlanKind::Butterfly => match Butterfly::new(wires) {
-            Ok(plan) => check_round(heap, group, &plan, opening, offset, reader),
-            Err(refusal) => Ok(Report::refused(Vec::new(heap), refusal.reason.at(offset))),
-        },
+    match GroupKind::try_from(opening.group).map_err(|reason| reason.at(offset))? {
+        GroupKind::ResiduesModulo23 => opened.finish_in(heap, &RESIDUES_MODULO_23, lines, end),
+        GroupKind::BinaryPolynomials => opened.finish_in(heap, &Polynomials, lines, end),
     }
 }

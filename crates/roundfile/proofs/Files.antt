@@ -88,16 +88,13 @@ reads_round_files bytes records file =
     )
 
 -- The other way: what a call that gave a record knows.
-none_is_some : {X : Type 0} (x : X) → None ≡ Some x → ⊥
-none_is_some x e = let no : ◌≡◌ {A = ℕ} 0 1 = cc in omega arith
-
 Knows : Place → Result (Content × List ℕ) Reason → Found → Place → Type 0
 Knows p read f q = (read ≡ Ok (f.holds, q.rest)) × (after p.stage (kind_in f.holds) ≡ Some q.stage) × (q.end ≡ p.end) × (f.offset ≡ offset_at p)
 
 placed_gave : (p : Place) (t : Content × List ℕ) (next : Option Stage) (f : Found) (q : Place) → after p.stage (kind_in t.0) ≡ next →
     step_placed p t next ≡ gave f q → Knows p (Ok t) f q
 unfolding Knows
-placed_gave p t None f q is e = let no : ◌≡◌ {A = ℕ} 0 1 = cc in absurd (omega arith)
+placed_gave p t None f q is e = cc
 placed_gave p t (Some next) f q is e =
     let found : ◌≡◌ {A = Found} (record { offset = offset_at p; holds = t.0 }) f = cc in
     let place : ◌≡◌ {A = Place} (record { stage = next; end = p.end; rest = t.1 }) q = cc in (
@@ -109,13 +106,13 @@ placed_gave p t (Some next) f q is e =
 
 over_gave : (p : Place) (read : Result (Content × List ℕ) Reason) (f : Found) (q : Place) → step_over p read ≡ gave f q → Knows p read f q
 over_gave p (Ok t) f q e = placed_gave p t (after p.stage (kind_in t.0)) f q refl e
-over_gave p (Err reason) f q e = let no : ◌≡◌ {A = ℕ} 0 1 = cc in absurd (omega arith)
+over_gave p (Err reason) f q e = cc
 
 end_gives_none : (stage : Stage) (n : ℕ) (f : Found) (q : Place) → step_at_end stage n ≡ gave f q → ⊥
-end_gives_none Start n f q e = let no : ◌≡◌ {A = ℕ} 0 1 = cc in omega arith
-end_gives_none Opened n f q e = let no : ◌≡◌ {A = ℕ} 0 1 = cc in omega arith
-end_gives_none HalfDrawn n f q e = let no : ◌≡◌ {A = ℕ} 0 1 = cc in omega arith
-end_gives_none Drawn n f q e = let no : ◌≡◌ {A = ℕ} 0 1 = cc in omega arith
+end_gives_none Start n f q e = cc
+end_gives_none Opened n f q e = cc
+end_gives_none HalfDrawn n f q e = cc
+end_gives_none Drawn n f q e = cc
 
 stepped : (p : Place) (f : Found) (q : Place) (empty : Bool) → cond empty (step_at_end p.stage p.end) (step_over p (parse p.rest)) ≡ gave f q → Knows p (parse p.rest) f q
 stepped p f q true e = absurd (end_gives_none p.stage p.end f q e)
@@ -123,17 +120,17 @@ stepped p f q false e = over_gave p (parse p.rest) f q e
 
 -- and a call that came to the end
 placed_goes_on : (p : Place) (t : Content × List ℕ) (next : Option Stage) → step_placed p t next ≡ ended → ⊥
-placed_goes_on p t None e = let no : ◌≡◌ {A = ℕ} 0 1 = cc in omega arith
-placed_goes_on p t (Some next) e = let no : ◌≡◌ {A = ℕ} 0 1 = cc in omega arith
+placed_goes_on p t None e = cc
+placed_goes_on p t (Some next) e = cc
 
 over_goes_on : (p : Place) (read : Result (Content × List ℕ) Reason) → step_over p read ≡ ended → ⊥
 over_goes_on p (Ok t) e = placed_goes_on p t _ e
-over_goes_on p (Err reason) e = let no : ◌≡◌ {A = ℕ} 0 1 = cc in omega arith
+over_goes_on p (Err reason) e = cc
 
 ends_drawn : (stage : Stage) (n : ℕ) → step_at_end stage n ≡ ended → stage ≡ Drawn
-ends_drawn Start n e = let no : ◌≡◌ {A = ℕ} 0 1 = cc in absurd (omega arith)
-ends_drawn Opened n e = let no : ◌≡◌ {A = ℕ} 0 1 = cc in absurd (omega arith)
-ends_drawn HalfDrawn n e = let no : ◌≡◌ {A = ℕ} 0 1 = cc in absurd (omega arith)
+ends_drawn Start n e = cc
+ends_drawn Opened n e = cc
+ends_drawn HalfDrawn n e = cc
 ends_drawn Drawn n e = refl
 
 came_to_end : (p : Place) (empty : Bool) → eqb (length p.rest) 0 ≡ empty →
@@ -168,31 +165,31 @@ gave_round p (f ∷ more) small within (q, e, gives) =
 -- the order that the stages keep
 from_start : (held : Content) (next : Stage) → after Start (kind_in held) ≡ Some next → IsOpening held × (next ≡ Opened)
 from_start (opening m f) next e = (tt, cc)
-from_start (draws m f) next e = absurd (none_is_some next e)
-from_start (post m f) next e = absurd (none_is_some next e)
-from_start (comparator m f) next e = absurd (none_is_some next e)
-from_start close next e = absurd (none_is_some next e)
-from_start expel next e = absurd (none_is_some next e)
+from_start (draws m f) next e = cc
+from_start (post m f) next e = cc
+from_start (comparator m f) next e = cc
+from_start close next e = cc
+from_start expel next e = cc
 
 from_opened : (held : Content) (next : Stage) → after Opened (kind_in held) ≡ Some next → IsDraws held × (next ≡ HalfDrawn)
-from_opened (opening m f) next e = absurd (none_is_some next e)
+from_opened (opening m f) next e = cc
 from_opened (draws m f) next e = (tt, cc)
-from_opened (post m f) next e = absurd (none_is_some next e)
-from_opened (comparator m f) next e = absurd (none_is_some next e)
-from_opened close next e = absurd (none_is_some next e)
-from_opened expel next e = absurd (none_is_some next e)
+from_opened (post m f) next e = cc
+from_opened (comparator m f) next e = cc
+from_opened close next e = cc
+from_opened expel next e = cc
 
 from_half_drawn : (held : Content) (next : Stage) → after HalfDrawn (kind_in held) ≡ Some next → IsDraws held × (next ≡ Drawn)
-from_half_drawn (opening m f) next e = absurd (none_is_some next e)
+from_half_drawn (opening m f) next e = cc
 from_half_drawn (draws m f) next e = (tt, cc)
-from_half_drawn (post m f) next e = absurd (none_is_some next e)
-from_half_drawn (comparator m f) next e = absurd (none_is_some next e)
-from_half_drawn close next e = absurd (none_is_some next e)
-from_half_drawn expel next e = absurd (none_is_some next e)
+from_half_drawn (post m f) next e = cc
+from_half_drawn (comparator m f) next e = cc
+from_half_drawn close next e = cc
+from_half_drawn expel next e = cc
 
 from_drawn : (held : Content) (next : Stage) → after Drawn (kind_in held) ≡ Some next → Later held × (next ≡ Drawn)
-from_drawn (opening m f) next e = absurd (none_is_some next e)
-from_drawn (draws m f) next e = absurd (none_is_some next e)
+from_drawn (opening m f) next e = cc
+from_drawn (draws m f) next e = cc
 from_drawn (post m f) next e = (tt, cc)
 from_drawn (comparator m f) next e = (tt, cc)
 from_drawn close next e = (tt, cc)
@@ -205,12 +202,12 @@ all_later stage (held ∷ more) is (next, e, order) =
     (one.0, all_later next more one.1 order)
 
 in_order : (records : List Content) → OrderedFrom Start records → InOrder records
-in_order [] order = let no : ◌≡◌ {A = ℕ} 0 1 = cc in omega arith
-in_order (a ∷ []) (one, e, order) = let first = from_start a one e in let no : ◌≡◌ {A = ℕ} 0 1 = cc first.1 in omega arith
+in_order [] order = cc
+in_order (a ∷ []) (one, e, order) = let first = from_start a one e in cc first.1
 in_order (a ∷ b ∷ []) (one, e, (two, e', order)) =
     let first = from_start a one e in
     let second = from_opened b two (ap (λ s. after s (kind_in b)) (sym first.1) ∙ e') in
-    let no : ◌≡◌ {A = ℕ} 0 1 = cc second.1 in omega arith
+    cc second.1
 in_order (a ∷ b ∷ c ∷ more) (one, e, (two, e', (three, e'', order))) =
     let first = from_start a one e in
     let second = from_opened b two (ap (λ s. after s (kind_in b)) (sym first.1) ∙ e') in
@@ -238,8 +235,8 @@ OpenedAs bytes p = (length bytes ≤ 65536) × (bytes ≡ mark ++ p.rest) × (p.
 was_opened : (bytes : List ℕ) (p : Place) (long there : Bool) → ltb 65536 (length bytes) ≡ long → marked bytes ≡ there →
     open_at (length bytes) (cond long None (cond there (Some (drop 4 bytes)) None)) ≡ Ok p → OpenedAs bytes p
 unfolding OpenedAs
-was_opened bytes p true there fits is e = let no : ◌≡◌ {A = ℕ} 0 1 = cc in absurd (omega arith)
-was_opened bytes p false false fits is e = let no : ◌≡◌ {A = ℕ} 0 1 = cc in absurd (omega arith)
+was_opened bytes p true there fits is e = cc
+was_opened bytes p false false fits is e = cc
 was_opened bytes p false true fits is e =
     let place : ◌≡◌ {A = Place} (record { stage = Start; end = length bytes; rest = drop 4 bytes }) p = cc in (
       ltb-false 65536 (length bytes) fits,

@@ -88,7 +88,7 @@ byte_of_kind byte kind =
     (picked byte 3 Post kind _ refl
     (picked byte 4 Comparator kind _ refl
     (picked byte 5 Close kind _ refl
-    (picked byte 6 Expel kind _ refl (λ h. let no : ◌≡◌ {A = ℕ} 0 1 = cc in absurd (omega arith))
+    (picked byte 6 Expel kind _ refl (λ h. cc)
     _ refl) _ refl) _ refl) _ refl) _ refl) _ refl
 
 -- a record of close or expel has nothing but its kind
@@ -142,7 +142,7 @@ size_taken Expel map bytes h = refl
 
 front_of : (byte high low : ℕ) (more : List ℕ) (read : Content) (rest : List ℕ) (known : Option Kind) → kind_of byte ≡ known → high < 256 → low < 256 →
     parse_kind known (high * 256 + low) more ≡ Ok (read, rest) → (byte ∷ high ∷ low ∷ more ≡ bytes_of read ++ rest) × FitsFormat read
-front_of byte high low more read rest None e hi lo h = let no : ◌≡◌ {A = ℕ} 0 1 = cc in absurd (omega arith)
+front_of byte high low more read rest None e hi lo h = cc
 front_of byte high low more read rest (Some kind) e hi lo h =
     let map : ℕ = high * 256 + low in
     let n : ℕ = size kind map more in
@@ -161,7 +161,7 @@ front_of byte high low more read rest (Some kind) e hi lo h =
     )
 
 pub reads_the_front : ReadsTheFront
-reads_the_front [] read rest bytes h = let no : ◌≡◌ {A = ℕ} 0 1 = cc in absurd (omega arith)
-reads_the_front (a ∷ []) read rest bytes h = let no : ◌≡◌ {A = ℕ} 0 1 = cc in absurd (omega arith)
-reads_the_front (a ∷ b ∷ []) read rest bytes h = let no : ◌≡◌ {A = ℕ} 0 1 = cc in absurd (omega arith)
+reads_the_front [] read rest bytes h = cc
+reads_the_front (a ∷ []) read rest bytes h = cc
+reads_the_front (a ∷ b ∷ []) read rest bytes h = cc
 reads_the_front (a ∷ b ∷ c ∷ more) read rest bytes h = front_of a b c more read rest (kind_of a) refl (bytes 1) (bytes 2) h

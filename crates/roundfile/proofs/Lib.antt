@@ -1,6 +1,5 @@
 pub mod Numbers
 pub mod Parses
-pub mod Opens
 pub mod Writes
 pub mod Laws
 pub mod Rewrites

@@ -1,20 +1,10 @@
 -- How a record is taken off the front of bytes, in the steps of the code.
-use Rattle.std.proofs.Common.{◌≡◌, ℕ, ◌+◌, ◌-◌, ◌*◌, ◌/◌, ◌^◌, ◌≤◌, Bool, true, false, cond, List, [], ◌∷◌, length, get_or, take, drop, Some, None, Ok, Err, Option, sym, refl, ap, ◌∙◌, arith, ltb-false, le-ltb, eq-eqb, eqb-true}
-use Rattle.std.proofs.lemmas.List.{take_rest, length-drop}
+use Rattle.std.proofs.Common.{◌≡◌, ℕ, ◌+◌, ◌*◌, ◌/◌, ◌^◌, ◌≤◌, Bool, true, false, cond, List, [], ◌∷◌, length, take, drop, Some, None, Ok, Err, Option, refl, ap, ◌∙◌, arith, ltb-false, le-ltb, eq-eqb, eqb-true}
+use Rattle.std.proofs.lemmas.List.{length-drop}
 use Rattle.std.proofs.lemmas.Bool.{cond-true, cond-false}
 use Rattle.roundfile.specs.Kinds.{kind_of, field_count, size}
 use Rattle.roundfile.specs.Records.{Content, content_of, parse, parse_kind, parse_fields}
 use Rattle.roundfile.specs.declared.kind.Kind.{Kind}
-
--- the rest that the pattern of the code binds
-abbrev pub after_map : List ℕ → List ℕ
-after_map bytes = take (length bytes - 3) (drop 3 bytes)
-
-parse_front : (bytes : List ℕ) → 3 ≤ length bytes → parse bytes ≡ parse_kind (kind_of (get_or bytes 0 0)) (get_or bytes 1 0 * 256 + get_or bytes 2 0) (after_map bytes)
-parse_front [] h = absurd (omega arith)
-parse_front (a ∷ []) h = absurd (omega arith)
-parse_front (a ∷ b ∷ []) h = absurd (omega arith)
-parse_front (a ∷ b ∷ c ∷ rest) h = ap (parse_kind (kind_of a) (b * 256 + c)) (sym (take_rest (a ∷ b ∷ c ∷ rest) 3))
 
 -- fields that the kind has, and that are all there
 pub fields_there : (kind : Kind) (map : ℕ) (rest : List ℕ) → map / 2 ^ field_count kind ≡ 0 → size kind map rest ≤ length rest →
@@ -23,22 +13,12 @@ fields_there kind map rest within whole =
     cond-true _ _ _ (eq-eqb (map / 2 ^ field_count kind) 0 within)
     ∙ cond-false _ _ _ (le-ltb (length rest) (size kind map rest) whole)
 
-pub record_there : (bytes : List ℕ) (kind : Kind) (map n : ℕ) → 3 ≤ length bytes → kind_of (get_or bytes 0 0) ≡ Some kind → map ≡ get_or bytes 1 0 * 256 + get_or bytes 2 0 →
-    map / 2 ^ field_count kind ≡ 0 → n ≡ size kind map (after_map bytes) → n ≤ length (after_map bytes) →
-    parse bytes ≡ Ok (content_of kind map (take n (after_map bytes)), drop n (after_map bytes))
-record_there bytes kind map n three known is within sized whole =
-    parse_front bytes three
-    ∙ ap (λ k. parse_kind k (get_or bytes 1 0 * 256 + get_or bytes 2 0) (after_map bytes)) known
-    ∙ ap (λ m. parse_fields kind m (after_map bytes)) (sym is)
-    ∙ fields_there kind map (after_map bytes) within (omega arith)
-    ∙ ap (λ k. Ok (content_of kind map (take k (after_map bytes)), drop k (after_map bytes))) (sym sized)
-
 -- the other way: what is known where a record came off the front
 passed : {X Y : Type 0} (within short : Bool) (x t : X) (y z : Y) → cond within (cond short (Err y) (Ok x)) (Err z) ≡ Ok t →
     (within ≡ true) × (short ≡ false) × (x ≡ t)
-passed true true x t y z e = let no : ◌≡◌ {A = ℕ} 0 1 = cc in absurd (omega arith)
+passed true true x t y z e = cc
 passed true false x t y z e = (refl, refl, cc)
-passed false short x t y z e = let no : ◌≡◌ {A = ℕ} 0 1 = cc in absurd (omega arith)
+passed false short x t y z e = cc
 
 pub fields_were_there : (kind : Kind) (map : ℕ) (rest : List ℕ) (t : Content × List ℕ) → parse_fields kind map rest ≡ Ok t →
     (map / 2 ^ field_count kind ≡ 0) × (size kind map rest ≤ length rest) × ((content_of kind map (take (size kind map rest) rest), drop (size kind map rest) rest) ≡ t)
@@ -47,13 +27,13 @@ fields_were_there kind map rest t e =
     (eqb-true _ 0 facts.0, ltb-false _ _ facts.1, facts.2)
 
 rest_no_longer : (known : Option Kind) (map : ℕ) (rest : List ℕ) (t : Content × List ℕ) → parse_kind known map rest ≡ Ok t → length t.1 ≤ length rest
-rest_no_longer None map rest t e = let no : ◌≡◌ {A = ℕ} 0 1 = cc in absurd (omega arith)
+rest_no_longer None map rest t e = cc
 rest_no_longer (Some kind) map rest t e =
     let facts = fields_were_there kind map rest t e in
     omega (arith, length-drop (size kind map rest) rest, ap (λ (u : Content × List ℕ). length u.1) facts.2)
 
 pub three_or_more : (bytes : List ℕ) (t : Content × List ℕ) → parse bytes ≡ Ok t → length t.1 + 3 ≤ length bytes
-three_or_more [] t e = let no : ◌≡◌ {A = ℕ} 0 1 = cc in absurd (omega arith)
-three_or_more (a ∷ []) t e = let no : ◌≡◌ {A = ℕ} 0 1 = cc in absurd (omega arith)
-three_or_more (a ∷ b ∷ []) t e = let no : ◌≡◌ {A = ℕ} 0 1 = cc in absurd (omega arith)
+three_or_more [] t e = cc
+three_or_more (a ∷ []) t e = cc
+three_or_more (a ∷ b ∷ []) t e = cc
 three_or_more (a ∷ b ∷ c ∷ rest) t e = omega (arith, rest_no_longer (kind_of a) (b * 256 + c) rest t e)

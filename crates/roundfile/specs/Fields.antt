@@ -1,5 +1,6 @@
 -- The fields of a record: a map of 16 bits, and the bytes of the fields whose bit stands, that of the lowest bit first.
-use Rattle.std.specs.Prelude.{ℕ, ◌+◌, ◌*◌, ◌/◌, ◌%◌, ◌^◌, Bool, cond, List, Option, ◌==◌, count_ones}
+use Rattle.std.specs.Prelude.{ℕ, ◌+◌, ◌*◌, ◌/◌, ◌%◌, ◌^◌, Bool, cond, List, map, Some, None, Option, ◌==◌, count_ones}
+use Rattle.std.specs.List.{range_with_len}
 use Rattle.std.specs.Option.{unwrap_or}
 use Rattle.roundfile.specs.Number.{number_at}
 use Rattle.roundfile.specs.declared.parts.Opening.{Opening}
@@ -27,6 +28,10 @@ stands map bit = map / 2 ^ bit % 2 == 1
 abbrev pub start : ℕ → ℕ → ℕ
 start map bit = 4 * count_ones (map % 2 ^ bit)
 
+-- Where the field of a bit begins; none where the bit does not stand.
+abbrev pub start_of : ℕ → ℕ → Option ℕ
+start_of map bit = cond (stands map bit) (Some (start map bit)) None
+
 -- The field of a bit: the number in its four bytes, and its default where the bit does not stand. (Nor are bytes
 -- missing in a record that was read; were they, it would be the default too.)
 unfoldable pub field : ℕ → List ℕ → ℕ → ℕ → ℕ
@@ -35,6 +40,10 @@ field map bytes bit default = cond (stands map bit) (unwrap_or (number_at 4 byte
 -- The word at an index of draws, whose bytes are a count in four and then eight for each word.
 abbrev pub word : List ℕ → ℕ → Option ℕ
 word bytes index = number_at 8 bytes (4 + 8 * index)
+
+-- All words of draws, which say in their first field how many these are.
+abbrev pub words_in : ℕ → List ℕ → List ℕ
+words_in bits fields = map (λ i. unwrap_or (word fields i) 0) (range_with_len 0 (field bits fields 0 default_number))
 
 abbrev pub opening_of : ℕ → List ℕ → Opening
 opening_of map bytes = record {

@@ -1,6 +1,7 @@
 pub mod Number
 pub mod Kinds
 pub mod Fields
+pub mod Words
 pub mod Records
 pub mod Reading
 pub mod Writing

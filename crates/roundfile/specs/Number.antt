@@ -9,6 +9,10 @@ number_after n (byte ∷ bytes) = number_after (n * 256 + byte) bytes
 abbrev pub number : List ℕ → ℕ
 number bytes = number_after 0 bytes
 
+-- The bytes from start on, as many as the width says; none where the bytes end before.
+abbrev pub bytes_at : ℕ → List ℕ → ℕ → Option (List ℕ)
+bytes_at width bytes start = cond (nat_le (start + width) (length bytes)) (Some (take width (drop start bytes))) None
+
 -- The number in the bytes from start on, as many as the width says; none where the bytes end before.
 abbrev pub number_at : ℕ → List ℕ → ℕ → Option ℕ
 number_at width bytes start = cond (nat_le (start + width) (length bytes)) (Some (number (take width (drop start bytes)))) None

@@ -1,10 +1,12 @@
-ghost use Rattle.std.specs.Prelude.{◌≡◌, ◌+◌, ◌*◌};
+ghost use Rattle.std.specs.Prelude.{◌≡◌, ◌+◌, ◌*◌, ok_or};
+ghost use Rattle.refusal.specs.declared.Reason.TheVariants.{UnknownRecord};
 ghost use Rattle.roundfile.specs.Kinds.{kind_of, byte_of, field_count, size, words_size};
 
 use crate::number::u32_at;
+use refusal::Reason;
 
 // What a record is; docs/round-file.md has the fields of each kind.
-#[derive(Clone, Copy)]
+#[derive(Clone, Copy, Debug, PartialEq, Eq)]
 pub enum Kind {
     Opening,
     Draws,
@@ -14,27 +16,31 @@ pub enum Kind {
     Expel,
 }
 
-impl Kind {
-    // The kind that a record's first byte names.
-    pub(crate) fn from_byte(byte: u8) -> Option<Kind>
-        ensures { result ≡ kind_of byte }
-    {
+// The kind that a record's first byte names.
+impl TryFrom<u8> for Kind {
+    type Error = Reason;
+
+    ghost try_from_gives = { λ byte answer. answer ≡ ok_or (kind_of byte) UnknownRecord };
+
+    fn try_from(byte: u8) -> Result<Kind, Reason> {
         match byte {
-            1 => Some(Kind::Opening),
-            2 => Some(Kind::Draws),
-            3 => Some(Kind::Post),
-            4 => Some(Kind::Comparator),
-            5 => Some(Kind::Close),
-            6 => Some(Kind::Expel),
-            _ => None,
+            1 => Ok(Kind::Opening),
+            2 => Ok(Kind::Draws),
+            3 => Ok(Kind::Post),
+            4 => Ok(Kind::Comparator),
+            5 => Ok(Kind::Close),
+            6 => Ok(Kind::Expel),
+            _ => Err(Reason::UnknownRecord),
         }
     }
+}
 
-    // The first byte of a record of this kind.
-    pub(crate) fn byte(self) -> u8
-        ensures { result ≡ byte_of self }
-    {
-        match self {
+// The first byte of a record of the kind.
+impl From<Kind> for u8 {
+    ghost from_gives = { λ kind byte. byte ≡ byte_of kind };
+
+    fn from(kind: Kind) -> u8 {
+        match kind {
             Kind::Opening => 1,
             Kind::Draws => 2,
             Kind::Post => 3,
@@ -43,7 +49,9 @@ impl Kind {
             Kind::Expel => 6,
         }
     }
+}
 
+impl Kind {
     // How many fields a record of this kind can have.
     pub(crate) fn field_count(self) -> u32
         ensures { result ≡ field_count self }

@@ -1,29 +1,24 @@
-ghost use Rattle.std.specs.Prelude.{◌≡◌, [], ◌∷◌};
-ghost use Rattle.roundfile.specs.Number.{number, number_at};
+ghost use Rattle.std.specs.Prelude.{◌≡◌};
+ghost use Rattle.std.specs.Option.{option_map};
+ghost use Rattle.roundfile.specs.Number.{bytes_at, number_at};
 
-// The number that four bytes write, most significant byte first.
-fn u32_of(a: u8, b: u8, c: u8, d: u8) -> u32
-    ensures { result ≡ number (a ∷ b ∷ c ∷ d ∷ []) }
+// So many bytes from `start` on; none where the bytes end before.
+fn bytes_at<const N: usize>(bytes: &[u8], start: usize) -> Option<[u8; N]>
+    ensures { result ≡ bytes_at N bytes.now start }
 {
-    u32::from_be_bytes([a, b, c, d])
+    bytes.get(start..)?.first_chunk().copied()
 }
 
-// The number in the four bytes from `start` on; none where the bytes end before.
+// The number in the four bytes from `start` on, most significant byte first; none where the bytes end before.
 pub(crate) fn u32_at(bytes: &[u8], start: usize) -> Option<u32>
     ensures { result ≡ number_at 4 bytes.now start }
 {
-    let [a, b, c, d, ..] = bytes.get(start..)? else {
-        return None;
-    };
-    Some(u32_of(*a, *b, *c, *d))
+    bytes_at(bytes, start).map(u32::from_be_bytes)
 }
 
 // The number in the eight bytes from `start` on; none where the bytes end before.
 pub(crate) fn u64_at(bytes: &[u8], start: usize) -> Option<u64>
     ensures { result ≡ number_at 8 bytes.now start }
 {
-    let [a, b, c, d, e, f, g, h, ..] = bytes.get(start..)? else {
-        return None;
-    };
-    Some(u64::from_be_bytes([*a, *b, *c, *d, *e, *f, *g, *h]))
+    bytes_at(bytes, start).map(u64::from_be_bytes)
 }

@@ -1,7 +1,11 @@
+ghost use Rattle.std.specs.Iterator.{YieldsFirst, item_count};
 ghost use Rattle.std.specs.Prelude.{◌≡◌, ◌<◌};
-ghost use Rattle.roundfile.specs.Fields.{stands, start, field, word, opening_of, post_of, comparator_of, default_number};
+ghost use Rattle.roundfile.specs.Fields.{start_of, field, word, words_in, opening_of, post_of, comparator_of, default_number};
+ghost use Rattle.roundfile.specs.Words.{words_left};
 
 use crate::number::{u32_at, u64_at};
+use std::marker::PhantomData;
+use std::ops::Range;
 
 // What a field is where its bit does not stand: an element is the one, whose code is 1.
 const DEFAULT_NUMBER: u32 = 0;
@@ -19,26 +23,16 @@ pub struct Fields<'a> {
     pub(crate) bytes: &'a [u8],
 }
 
-// The part of a file that holds an opening's fields; the other parts likewise.
+// The part of a file that holds the fields of one record; `T` is what they are read as.
 #[derive(Clone, Copy)]
-pub struct OpeningPart<'a> {
+pub struct Part<'a, T> {
     pub(crate) fields: Fields<'a>,
+    read_as: PhantomData<T>,
 }
 
+// Draws are not read as a value: they have as many words as the file says.
 #[derive(Clone, Copy)]
-pub struct DrawsPart<'a> {
-    pub(crate) fields: Fields<'a>,
-}
-
-#[derive(Clone, Copy)]
-pub struct PostPart<'a> {
-    pub(crate) fields: Fields<'a>,
-}
-
-#[derive(Clone, Copy)]
-pub struct ComparatorPart<'a> {
-    pub(crate) fields: Fields<'a>,
-}
+pub struct Draws;
 
 // The terms of a round.
 #[derive(Clone, Copy)]
@@ -76,20 +70,17 @@ pub struct Comparator {
 }
 
 impl Fields<'_> {
-    // Whether the bit stands; bit 0 is the lowest.
-    fn stands(self, bit: u32) -> bool
+    // Where the bytes of the field begin, after those of the lower fields that stand; none where its bit does not
+    // stand. Bit 0 is the lowest.
+    fn start(self, bit: u32) -> Option<usize>
         requires { bit < 16 }
-        ensures { result ≡ stands self.entry.map bit }
+        ensures { result ≡ start_of self.entry.map bit }
     {
-        (self.map >> bit) % 2 == 1
-    }
-
-    // Where the bytes of the field begin: after those of the lower fields that stand.
-    fn start(self, bit: u32) -> usize
-        requires { bit < 16 }
-        ensures { result ≡ start self.entry.map bit }
-    {
-        4 * (self.map % (1 << bit)).count_ones() as usize
+        if (self.map >> bit) % 2 == 1 {
+            Some(4 * (self.map % (1 << bit)).count_ones() as usize)
+        } else {
+            None
+        }
     }
 
     // The number in the field of a bit, or `default` where the bit does not stand.
@@ -97,19 +88,36 @@ impl Fields<'_> {
         requires { bit < 16 }
         ensures { result ≡ field self.entry.map self.entry.bytes.now bit default }
     {
-        if self.stands(bit) {
-            u32_at(self.bytes, self.start(bit)).unwrap_or(default)
-        } else {
-            default
+        self.start(bit)
+            .and_then(|start| u32_at(self.bytes, start))
+            .unwrap_or(default)
+    }
+}
+
+impl<'a, T> Part<'a, T> {
+    pub(crate) fn new(fields: Fields<'a>) -> Part<'a, T>
+        ensures { result.fields ≡ fields.entry }
+    {
+        Part {
+            fields,
+            read_as: PhantomData,
         }
     }
 }
 
-impl OpeningPart<'_> {
-    pub fn values(self) -> Opening
-        ensures { result ≡ opening_of self.entry.fields.map self.entry.fields.bytes.now }
+impl<'a, T: From<Fields<'a>>> Part<'a, T> {
+    // What the fields say.
+    pub fn values(self) -> T
+        ensures { T.from_gives self.entry.fields result }
     {
-        let fields = self.fields;
+        T::from(self.fields)
+    }
+}
+
+impl From<Fields<'_>> for Opening {
+    ghost from_gives = { λ fields opening. opening ≡ opening_of fields.map fields.bytes.now };
+
+    fn from(fields: Fields<'_>) -> Opening {
         Opening {
             group: fields.number_or(0, DEFAULT_NUMBER),
             plan: fields.number_or(1, DEFAULT_PLAN),
@@ -120,7 +128,7 @@ impl OpeningPart<'_> {
     }
 }
 
-impl DrawsPart<'_> {
+impl<'a> Part<'a, Draws> {
     // How many words there are.
     pub fn count(self) -> u32
         ensures { result ≡ field self.entry.fields.map self.entry.fields.bytes.now 0 default_number }
@@ -134,13 +142,43 @@ impl DrawsPart<'_> {
     {
         u64_at(self.fields.bytes, 4 + 8 * index as usize)
     }
+
+    // All words, from the first on.
+    pub fn words(self) -> Words<'a>
+        ensures { words_left result ≡ words_in self.entry.fields.map self.entry.fields.bytes.now }
+    {
+        Words {
+            draws: self,
+            indices: 0..self.count(),
+        }
+    }
 }
 
-impl PostPart<'_> {
-    pub fn values(self) -> Post
-        ensures { result ≡ post_of self.entry.fields.map self.entry.fields.bytes.now }
-    {
-        let fields = self.fields;
+// The words of draws, one after the other.
+#[derive(Drop)]
+pub struct Words<'a> {
+    draws: Part<'a, Draws>,
+    indices: Range<u32>,
+}
+
+impl Iterator for Words<'_> {
+    type Item = u64;
+
+    ghost next_gives = { YieldsFirst words_left };
+
+    ghost remaining = { item_count words_left };
+
+    fn next(&mut self) -> Option<u64> {
+        let index = self.indices.next()?;
+        // draws that were read have a word for each index below their count
+        Some(self.draws.word(index).unwrap_or(0))
+    }
+}
+
+impl From<Fields<'_>> for Post {
+    ghost from_gives = { λ fields post. post ≡ post_of fields.map fields.bytes.now };
+
+    fn from(fields: Fields<'_>) -> Post {
         Post {
             alpha: fields.number_or(0, DEFAULT_ELEMENT),
             beta: fields.number_or(1, DEFAULT_ELEMENT),
@@ -148,11 +186,10 @@ impl PostPart<'_> {
     }
 }
 
-impl ComparatorPart<'_> {
-    pub fn values(self) -> Comparator
-        ensures { result ≡ comparator_of self.entry.fields.map self.entry.fields.bytes.now }
-    {
-        let fields = self.fields;
+impl From<Fields<'_>> for Comparator {
+    ghost from_gives = { λ fields comparator. comparator ≡ comparator_of fields.map fields.bytes.now };
+
+    fn from(fields: Fields<'_>) -> Comparator {
         Comparator {
             first_alpha: fields.number_or(0, DEFAULT_ELEMENT),
             first_beta: fields.number_or(1, DEFAULT_ELEMENT),

@@ -12,7 +12,7 @@ use refusal::{Reason, Refusal};
 const LONGEST: usize = 65536;
 
 // How far a file has come: it begins with an opening and two draws.
-#[derive(Clone, Copy)]
+#[derive(Clone, Copy, Debug, PartialEq, Eq)]
 pub enum Stage {
     Start,
     Opened,
@@ -60,10 +60,7 @@ fn after_mark(file: &[u8]) -> Option<&[u8]>
     if file.len() > LONGEST {
         return None;
     }
-    match file {
-        [b'M', b'I', b'X', b'R', rest @ ..] => Some(rest),
-        _ => None,
-    }
+    file.strip_prefix(b"MIXR")
 }
 
 impl<'a> Reader<'a> {
@@ -74,9 +71,7 @@ impl<'a> Reader<'a> {
         ensures records { RecordLaws }
         ensures files { FileLaws }
     {
-        let Some(rest) = after_mark(file) else {
-            return Err(Reason::NoRoundFile.at(0));
-        };
+        let rest = after_mark(file).ok_or(Reason::NoRoundFile.at(0))?;
         Ok(Reader {
             stage: Stage::Start,
             end: file.len(),
@@ -98,14 +93,11 @@ impl<'a> Reader<'a> {
                 _ => Err(Reason::MisplacedRecord.at(offset)),
             };
         }
-        let (record, rest) = match read_record(self.rest) {
-            Ok(taken) => taken,
-            Err(reason) => return Err(reason.at(offset)),
-        };
-        let Some(stage) = self.stage.after(record.kind()) else {
-            return Err(Reason::MisplacedRecord.at(offset));
-        };
-        self.stage = stage;
+        let (record, rest) = read_record(self.rest).map_err(|reason| reason.at(offset))?;
+        self.stage = self
+            .stage
+            .after(record.kind())
+            .ok_or(Reason::MisplacedRecord.at(offset))?;
         self.rest = rest;
         Ok(Some(Entry { offset, record }))
     }

@@ -2,16 +2,16 @@ ghost use Rattle.std.specs.Prelude.{◌≡◌};
 ghost use Rattle.roundfile.specs.Records.{content, content_of, kind_in, taken, parse};
 
 use crate::kind::Kind;
-use crate::parts::{ComparatorPart, DrawsPart, Fields, OpeningPart, PostPart};
+use crate::parts::{Comparator, Draws, Fields, Opening, Part, Post};
 use refusal::Reason;
 
 // A record that was read: its kind, and the part of the file that holds its fields.
 #[derive(Clone, Copy)]
 pub enum Record<'a> {
-    Opening(OpeningPart<'a>),
-    Draws(DrawsPart<'a>),
-    Post(PostPart<'a>),
-    Comparator(ComparatorPart<'a>),
+    Opening(Part<'a, Opening>),
+    Draws(Part<'a, Draws>),
+    Post(Part<'a, Post>),
+    Comparator(Part<'a, Comparator>),
     Close,
     Expel,
 }
@@ -22,10 +22,10 @@ impl<'a> Record<'a> {
     {
         let fields = Fields { map, bytes };
         match kind {
-            Kind::Opening => Record::Opening(OpeningPart { fields }),
-            Kind::Draws => Record::Draws(DrawsPart { fields }),
-            Kind::Post => Record::Post(PostPart { fields }),
-            Kind::Comparator => Record::Comparator(ComparatorPart { fields }),
+            Kind::Opening => Record::Opening(Part::new(fields)),
+            Kind::Draws => Record::Draws(Part::new(fields)),
+            Kind::Post => Record::Post(Part::new(fields)),
+            Kind::Comparator => Record::Comparator(Part::new(fields)),
             Kind::Close => Record::Close,
             Kind::Expel => Record::Expel,
         }
@@ -52,7 +52,7 @@ pub fn read_record(input: &[u8]) -> Result<(Record<'_>, &[u8]), Reason>
     let [kind, high, low, rest @ ..] = input else {
         return Err(Reason::ShortRecord);
     };
-    let kind = Kind::from_byte(*kind).ok_or(Reason::UnknownRecord)?;
+    let kind = Kind::try_from(*kind)?;
     let map = u16::from_be_bytes([*high, *low]);
     if map >> kind.field_count() != 0 {
         return Err(Reason::UnknownField);

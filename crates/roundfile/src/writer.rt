@@ -25,7 +25,7 @@ fn write_head(buffer: &mut [u8], kind: Kind, map: u16)
     ensures { buffer.new ≡ byte_of kind ∷ (two_bytes map ++ drop 3 buffer.old) }
 {
     let [high, low] = map.to_be_bytes();
-    buffer[0] = kind.byte();
+    buffer[0] = u8::from(kind);
     buffer[1] = high;
     buffer[2] = low;
 }
@@ -42,6 +42,8 @@ fn write_record(buffer: &mut [u8], kind: Kind, map: u16, numbers: &[u32]) -> Res
         return Err(Reason::ShortBuffer.at(0));
     }
     write_head(buffer, kind, map);
+    // by places and not by chunks_exact_mut: of what is written through the chunks the library says nothing, so that
+    // the proof of the clause `after` does not close
     for (index, number) in numbers.iter().enumerate() {
         write_number(buffer, 3 + 4 * index, *number);
     }

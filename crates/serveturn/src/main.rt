@@ -5,35 +5,21 @@
 mod turn;
 
 use anyhow::anyhow;
-use butterfly::Butterfly;
-use chain::Chain;
 use group::Group;
+use kinds::GroupKind;
 use modular::modulo23::RESIDUES_MODULO_23;
 use polynomial::Polynomials;
-use refusal::Reason;
+use refusal::{Failure, Reason};
 use std::alloc::Global;
 use std::fmt;
-use turn::{Round, Stop, serve_round};
+use turn::{Round, kind_of, serve_on};
 
 // Serves on the plan of this number, and prints what the wires open to.
 fn answer_in<G: Group>(rt: &HostRuntime, group: &G, plan: u64, round: Round) -> anyhow::Result<()>
 where
     G::Element: fmt::Display,
 {
-    let heap = rt.alloc();
-    let wires = round.permutation.len();
-    let served = match plan {
-        1 => match Chain::new(wires) {
-            Ok(plan) => serve_round(heap, group, &plan, round),
-            Err(refusal) => Err(Stop::Refused(refusal)),
-        },
-        2 => match Butterfly::new(wires) {
-            Ok(plan) => serve_round(heap, group, &plan, round),
-            Err(refusal) => Err(Stop::Refused(refusal)),
-        },
-        _ => Err(Stop::Refused(Reason::UnknownGroupOrPlan.at(0))),
-    };
-    match served {
+    match serve_on(rt.alloc(), group, plan, round) {
         Ok(opened) => {
             rt.print("opened")?;
             for element in opened.as_slice() {
@@ -41,8 +27,8 @@ where
             }
             rt.println("")?;
         }
-        Err(Stop::Refused(refusal)) => rt.println(refusal)?,
-        Err(Stop::Memory) => return Err(anyhow!("no memory")),
+        Err(Failure::Refused(refusal)) => rt.println(refusal)?,
+        Err(Failure::NoMemory(_)) => return Err(anyhow!("no memory")),
     }
     Ok(())
 }
@@ -55,30 +41,25 @@ fn numbers_of(heap: Global, line: &str) -> anyhow::Result<Vec<u64>> {
     Ok(numbers)
 }
 
-fn entries_of(heap: Global, numbers: &[u64]) -> anyhow::Result<Vec<usize>> {
-    let mut entries = Vec::new(heap);
-    for number in numbers {
-        entries.push(*number as usize)?;
-    }
-    Ok(entries)
-}
-
 // Answers one line.
 fn answer(rt: &HostRuntime, text: &str) -> anyhow::Result<()> {
     let numbers = numbers_of(rt.alloc(), text)?;
     let [group, plan, private, seed, entries @ ..] = numbers.as_slice() else {
         return Ok(rt.println(Reason::ShortRecord.at(0))?);
     };
-    let entries = entries_of(rt.alloc(), entries)?;
+    let entries: Vec<usize> = entries
+        .iter()
+        .map(|entry| *entry as usize)
+        .collect(rt.alloc())?;
     let round = Round {
         private: *private,
         seed: *seed,
         permutation: entries.as_slice(),
     };
-    match *group {
-        1 => answer_in(rt, &RESIDUES_MODULO_23, *plan, round),
-        2 => answer_in(rt, &Polynomials, *plan, round),
-        _ => Ok(rt.println(Reason::UnknownGroupOrPlan.at(0))?),
+    match kind_of::<GroupKind>(*group) {
+        Ok(GroupKind::ResiduesModulo23) => answer_in(rt, &RESIDUES_MODULO_23, *plan, round),
+        Ok(GroupKind::BinaryPolynomials) => answer_in(rt, &Polynomials, *plan, round),
+        Err(refusal) => Ok(rt.println(refusal)?),
     }
 }
 

@@ -4,12 +4,14 @@ use board::board::call::call;
 use board::board::round::open;
 use board::board::turn::serve;
 use board::events::Event;
+use board::setup::Setup;
 use elgamal::{Ciphertext, decrypt, encrypt};
 use group::{Exponent, Group};
+use kinds::KnownPlan;
 use plan::{Plan, Setting};
-use refusal::Refusal;
+use refusal::{Failure, Reason, Refusal};
 use source::{Source, Tape};
-use std::alloc::{AllocError, AllocFailed, Global};
+use std::alloc::{AllocError, Global};
 
 #[derive(Clone, Copy)]
 pub(crate) struct Round<'a> {
@@ -18,29 +20,10 @@ pub(crate) struct Round<'a> {
     pub permutation: &'a [usize],
 }
 
-// Why a line has no answer.
-#[derive(Drop)]
-pub(crate) enum Stop {
-    Refused(Refusal),
-    Memory,
-}
-
-impl From<Refusal> for Stop {
-    fn from(refusal: Refusal) -> Stop {
-        Stop::Refused(refusal)
-    }
-}
-
-impl From<AllocError> for Stop {
-    fn from(_: AllocError) -> Stop {
-        Stop::Memory
-    }
-}
-
-impl<T: Drop> From<AllocFailed<T>> for Stop {
-    fn from(_: AllocFailed<T>) -> Stop {
-        Stop::Memory
-    }
+// The group or the plan that a number of a line names.
+pub(crate) fn kind_of<K: TryFrom<u32, Error = Reason>>(number: u64) -> Result<K, Refusal> {
+    let number = u32::try_from(number).map_err(|_| Reason::UnknownGroupOrPlan.at(0))?;
+    K::try_from(number).map_err(|reason| reason.at(0))
 }
 
 // So many words that look like chance.
@@ -56,66 +39,66 @@ fn words_from(heap: Global, seed: u64, count: usize) -> Result<Vec<u64>, AllocEr
     Ok(words)
 }
 
-// A list with the same item in each place.
-fn repeated<T: Copy>(heap: Global, item: T, count: usize) -> Result<Vec<T>, AllocError> {
-    let mut list = Vec::new(heap);
-    for _ in 0..count {
-        list.push(item)?;
-    }
-    Ok(list)
-}
-
 // Posts a quote for each wire, and closes.
 fn post_all<G: Group, P: Plan, S: Source>(
     board: &mut Board<'_, G::Element>,
-    group: &G,
-    plan: &P,
-    source: &S,
+    setup: &Setup<'_, G, P, S>,
     key: G::Element,
     seed: u64,
 ) -> Result<(), Refusal> {
-    let mut quote = seed;
-    for _ in 0..plan.wires() {
+    let group = setup.group;
+    for wire in 0..setup.plan.wires() {
+        let quote = seed.wrapping_add(wire as u64);
         let message = group.raise_word(group.generator(), quote);
         let gamma = G::Exponent::from_word(quote.wrapping_add(7));
         let sealed = encrypt(group, key, message, gamma);
-        call(board, group, plan, source, Event::Post(sealed), &mut [])?;
-        quote = quote.wrapping_add(1);
+        call(board, setup, Event::Post(sealed), &mut [])?;
     }
-    call(board, group, plan, source, Event::Close, &mut [])?;
+    call(board, setup, Event::Close, &mut [])?;
     Ok(())
 }
 
-// What the wires open to once the turn was served.
-pub(crate) fn serve_round<G: Group, P: Plan>(
+// So many ciphertexts, each of the one twice.
+fn blank<G: Group>(
     heap: Global,
     group: &G,
-    plan: &P,
-    round: Round,
-) -> Result<Vec<G::Element>, Stop> {
-    let private = G::Exponent::from_word(round.private);
-    let key = group.raise(group.generator(), private);
+    count: usize,
+) -> Result<Vec<Ciphertext<G::Element>>, AllocError> {
     let one = group.one();
     let item = Ciphertext {
         alpha: one,
         beta: one,
     };
-    let mut wires = repeated(heap, item, plan.wires())?;
-    let mut start = repeated(heap, item, plan.wires())?;
+    vec![in heap; item; count]
+}
+
+// What the wires open to once the turn was served, on the plan of this number.
+pub(crate) fn serve_on<G: Group>(
+    heap: Global,
+    group: &G,
+    plan: u64,
+    round: Round,
+) -> Result<Vec<G::Element>, Failure> {
+    let plan = KnownPlan::new(kind_of(plan)?, round.permutation.len())?;
+    let private = G::Exponent::from_word(round.private);
+    let key = group.raise(group.generator(), private);
+    let mut wires = blank(heap, group, plan.wires())?;
+    let mut start = blank(heap, group, plan.wires())?;
     serve_lists(
         heap,
         group,
-        plan,
+        &plan,
         round,
         key,
         wires.as_mut_slice(),
         start.as_mut_slice(),
     )?;
-    let mut opened = Vec::new(heap);
-    for sealed in wires.as_slice() {
-        opened.push(decrypt(group, private, *sealed))?;
-    }
-    Ok(opened)
+    Ok(
+        wires
+            .iter()
+            .map(|sealed| decrypt(group, private, *sealed))
+            .collect(heap)?,
+    )
 }
 
 // Serves the turn on a board over these lists.
@@ -127,22 +110,24 @@ fn serve_lists<G: Group, P: Plan>(
     key: G::Element,
     wires: &mut [Ciphertext<G::Element>],
     start: &mut [Ciphertext<G::Element>],
-) -> Result<(), Stop> {
+) -> Result<(), Failure> {
     let count = plan.count();
     let tape = words_from(heap, round.seed, 4 * count)?;
-    let source = Tape {
-        words: tape.as_slice(),
-    };
-    let mut settings = repeated(heap, Setting::Straight, count)?;
-    let mut words = words_from(heap, round.seed.wrapping_add(1), 6 * count)?;
-    let mut buffer = repeated(heap, 0u8, 11 * group.code_width())?;
-    let mut board = open(group, plan, key, 1, wires, start)?;
-    post_all(&mut board, group, plan, &source, key, round.seed)?;
-    serve(
-        &mut board,
+    let setup = Setup {
         group,
         plan,
-        &source,
+        source: &Tape {
+            words: tape.as_slice(),
+        },
+    };
+    let mut settings = vec![in heap; Setting::Straight; count]?;
+    let mut words = words_from(heap, round.seed.wrapping_add(1), 6 * count)?;
+    let mut buffer = vec![in heap; 0u8; 11 * group.code_width()]?;
+    let mut board = open(group, plan, key, 1, wires, start)?;
+    post_all(&mut board, &setup, key, round.seed)?;
+    serve(
+        &mut board,
+        &setup,
         round.permutation,
         settings.as_mut_slice(),
         words.as_mut_slice(),

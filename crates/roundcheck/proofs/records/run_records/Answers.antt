@@ -1,89 +1,52 @@
-use Rattle.std.proofs.Common.{Ok, Err, vec_items, sym, refl, ap, ◌∙◌, subst}
+use Rattle.std.proofs.Common.{Ok, Err, refl, ap, ◌∙◌, subst}
+use Rattle.std.proofs.lemmas.Result.{err_from_is_err_and}
 use Rattle.board.specs.Calls.{terms}
 use Rattle.board.specs.States.{view, state_map}
 use Rattle.elgamal.specs.Ciphertexts.{meaning}
-use Rattle.roundfile.specs.Reading.{Step, place, step}
 use Rattle.roundcheck.proofs.Judging.{refused_kept, begun, went_on, stopped}
 use Rattle.roundcheck.proofs.Reading.{gave_by, ended_by, refused_by}
-use Rattle.roundcheck.specs.Runs.{found_in, Judges, Ends}
-use Rattle.roundcheck.specs.declared.report.Ending.TheVariants.{Judged}
+use Rattle.roundcheck.specs.Runs.{found_in, Judges}
 use Rattle.roundcheck.proofs.records.run_records.Goals as goal
 
-pub loop-next-init : goal.loop-next-init
-loop-next-init g c = (refl, begun _ _ _ _ _)
+pub loop-entry-init : goal.loop-entry-init
+loop-entry-init g c = (refl, begun _ _ _ _ _)
 
-pub returns-in_default : goal.returns-in_default
-returns-in_default g c =
+pub returns-in_err-entry : goal.returns-in_err-entry
+returns-in_err-entry g c =
+    let e = err_from_is_err_and c.from_residual.result c.from_residual.ensures.1 in
+    rw (e.1, e.2) (stopped _ _ _ _ _ _ _ _ _ _ c.loop-entry.invariant.1 (refused_by _ _ c.in_err-entry.ensures.gives) refl)
+
+pub returns : goal.returns
+returns g c =
+    stopped _ _ _ _ _ _ _ _ _ _ c.loop-entry.invariant.1 (ended_by _ (rw c.in_default.is at c.in_ok-entry.ensures.gives)) (ap Ok c.judge_round.ensures.standing)
+
+pub returns-in_err-line : goal.returns-in_err-line
+returns-in_err-line g c =
     let point = g.G.Group.point in
     let number = g.G.Exponent.Exponent.number in
-    let terms-of = λ (k : g.row.G-Element.Denot). terms g.G.Group.operations g.G.Exponent.Exponent.exponents (g.S.Source.words c.args.source.now) (point k) (g.P.Plan.listing c.args.plan.now) in
-    let T = terms-of c.args.board.now.key in
-    let p₀ = place c.args.reader in
-    let s₀ = state_map (meaning point) (view c.args.board.now) in
-    let p = place c.loop-next.reader in
-    let s = state_map (meaning point) (view c.loop-next.board) in
-    let inv = c.loop-next.invariant in
-    let ending = Judged c.judge_round-standing.result in
-    stopped T number p₀ s₀ (vec_items c.args.lines) p s (vec_items c.loop-next.lines) _ ending inv.1 refl
-    (subst (λ (x : Step). Ends T number s x ending) (sym (ended_by (step p) (rw c.in_default.is at c.in-Ok.ensures.gives))) (ap Judged c.judge_round-standing.ensures.standing))
-
-pub returns-in-Err : goal.returns-in-Err
-returns-in-Err g c =
-    let point = g.G.Group.point in
-    let number = g.G.Exponent.Exponent.number in
-    let terms-of = λ (k : g.row.G-Element.Denot). terms g.G.Group.operations g.G.Exponent.Exponent.exponents (g.S.Source.words c.args.source.now) (point k) (g.P.Plan.listing c.args.plan.now) in
-    let T = terms-of c.args.board.now.key in
-    let p₀ = place c.args.reader in
-    let s₀ = state_map (meaning point) (view c.args.board.now) in
-    let p = place c.loop-next.reader in
-    let s = state_map (meaning point) (view c.loop-next.board) in
-    let inv = c.loop-next.invariant in
-    let made = c.refused.ensures in
-    stopped T number p₀ s₀ (vec_items c.args.lines) p s (vec_items c.loop-next.lines) _ c.refused.result.ending inv.1 made.0
-    (subst (λ (x : Step). Ends T number s x c.refused.result.ending) (sym (refused_by (step p) c.in-Err.refusal c.in-Err.ensures.gives)) made.1)
-
-pub loop-next-preserved : goal.loop-next-preserved
-loop-next-preserved g c =
-    let point = g.G.Group.point in
-    let number = g.G.Exponent.Exponent.number in
-    let terms-of = λ (k : g.row.G-Element.Denot). terms g.G.Group.operations g.G.Exponent.Exponent.exponents (g.S.Source.words c.args.source.now) (point k) (g.P.Plan.listing c.args.plan.now) in
-    let T = terms-of c.args.board.now.key in
-    let p₀ = place c.args.reader in
-    let s₀ = state_map (meaning point) (view c.args.board.now) in
-    let p = place c.loop-next.reader in
-    let s = state_map (meaning point) (view c.loop-next.board) in
-    let inv = c.loop-next.invariant in
-    let q = place c.next_record.new.self in
+    let terms-of = λ (k : g.row.G-Element.Denot). terms g.G.Group.operations g.G.Exponent.Exponent.exponents (g.S.Source.words c.args.setup.now.source.now) (point k) (g.P.Plan.listing c.args.setup.now.plan.now) in
+    let s = state_map (meaning point) (view c.loop-entry.board) in
     let s' = state_map (meaning point) (view c.judge_record.new.board) in
     let f = found_in c.in-Some.entry in
-    let read = c.in-Ok.ensures in
-    let given = gave_by (step p) p q f (rw c.in-Some.is at read.gives) read.leaves in
-    let told = c.in-Ok-judge_record.ensures in
-    let line = c.in-Ok-judge_record.line in
-    let judged = subst (λ (k : g.row.G-Element.Denot). Judges (terms-of k) number s f (Ok line) s') inv.0 told.judged in (
-      told.key ∙ inv.0,
-      went_on T number p₀ s₀ (vec_items c.args.lines) p q s s' (vec_items c.loop-next.lines) (vec_items c.push.new.self) f line inv.1 given judged c.in_ok-push-in-Ok-judge_record.ensures.items,
+    let read = c.in_ok-entry.ensures in
+    let r = c.in_err-line.field-0.0 in
+    let e = err_from_is_err_and c.from_residual-in_err-line.result c.from_residual-in_err-line.ensures.1 in
+    let judged = subst (λ (k : g.row.G-Element.Denot). Judges (terms-of k) number s f (Err r) s') c.loop-entry.invariant.0 c.in_err-line.ensures.judged in
+    rw (e.1, e.2)
+    (stopped _ _ _ _ _ _ s _ _ _ c.loop-entry.invariant.1 (gave_by _ _ _ f (rw c.in-Some.is at read.gives) read.leaves)
+    (r, refused_kept (terms-of c.args.board.now.key) number s s' f r judged, refl))
+
+pub loop-entry-preserved : goal.loop-entry-preserved
+loop-entry-preserved g c =
+    let point = g.G.Group.point in
+    let number = g.G.Exponent.Exponent.number in
+    let terms-of = λ (k : g.row.G-Element.Denot). terms g.G.Group.operations g.G.Exponent.Exponent.exponents (g.S.Source.words c.args.setup.now.source.now) (point k) (g.P.Plan.listing c.args.setup.now.plan.now) in
+    let s = state_map (meaning point) (view c.loop-entry.board) in
+    let s' = state_map (meaning point) (view c.judge_record.new.board) in
+    let f = found_in c.in-Some.entry in
+    let read = c.in_ok-entry.ensures in
+    let told = c.in_ok-line.ensures in
+    let judged = subst (λ (k : g.row.G-Element.Denot). Judges (terms-of k) number s f (Ok c.in_ok-line.line) s') c.loop-entry.invariant.0 told.judged in (
+      told.key ∙ c.loop-entry.invariant.0,
+      went_on _ _ _ _ _ _ _ _ _ _ _ f c.in_ok-line.line c.loop-entry.invariant.1 (gave_by _ _ _ f (rw c.in-Some.is at read.gives) read.leaves) judged c.in_ok-push.ensures.items,
     )
-
-pub returns-in-Err-judge_record : goal.returns-in-Err-judge_record
-returns-in-Err-judge_record g c =
-    let point = g.G.Group.point in
-    let number = g.G.Exponent.Exponent.number in
-    let terms-of = λ (k : g.row.G-Element.Denot). terms g.G.Group.operations g.G.Exponent.Exponent.exponents (g.S.Source.words c.args.source.now) (point k) (g.P.Plan.listing c.args.plan.now) in
-    let T = terms-of c.args.board.now.key in
-    let p₀ = place c.args.reader in
-    let s₀ = state_map (meaning point) (view c.args.board.now) in
-    let p = place c.loop-next.reader in
-    let s = state_map (meaning point) (view c.loop-next.board) in
-    let inv = c.loop-next.invariant in
-    let q = place c.next_record.new.self in
-    let s' = state_map (meaning point) (view c.judge_record.new.board) in
-    let f = found_in c.in-Some.entry in
-    let read = c.in-Ok.ensures in
-    let given = gave_by (step p) p q f (rw c.in-Some.is at read.gives) read.leaves in
-    let r = c.in-Err-judge_record.refusal in
-    let made = c.refused-in-Err-judge_record.ensures in
-    let ending = c.refused-in-Err-judge_record.result.ending in
-    let judged = subst (λ (k : g.row.G-Element.Denot). Judges (terms-of k) number s f (Err r) s') inv.0 c.in-Err-judge_record.ensures.judged in
-    stopped T number p₀ s₀ (vec_items c.args.lines) p s (vec_items c.loop-next.lines) _ ending inv.1 made.0
-    (subst (λ (x : Step). Ends T number s x ending) (sym given) (r, refused_kept T number s s' f r judged, made.1))

@@ -6,12 +6,12 @@ use Rattle.roundfile.specs.Reading.{place}
 use Rattle.roundcheck.proofs.Judging.{SoFar}
 use Rattle.roundcheck.proofs.records.run_records.Given as goal
 
-abbrev pub invariant-loop-next : goal.invariant-loop-next
-invariant-loop-next g l =
+abbrev pub invariant-loop-entry : goal.invariant-loop-entry
+invariant-loop-entry g l =
     let point = g.G.Group.point in
-    let T = terms g.G.Group.operations g.G.Exponent.Exponent.exponents (g.S.Source.words l.source) (point l.initial.board.key) (g.P.Plan.listing l.plan) in
+    let T = terms g.G.Group.operations g.G.Exponent.Exponent.exponents (g.S.Source.words l.setup.source.now) (point l.initial.board.key) (g.P.Plan.listing l.setup.plan.now) in
     (l.board.key ≡ l.initial.board.key)
     × SoFar T g.G.Exponent.Exponent.number (place l.initial.reader) (state_map (meaning point) (view l.initial.board)) (vec_items l.initial.lines) (place l.reader) (state_map (meaning point) (view l.board)) (vec_items l.lines)
 
-abbrev pub decreases-loop-next : goal.decreases-loop-next
-decreases-loop-next g l = length l.reader.rest.now
+abbrev pub decreases-loop-entry : goal.decreases-loop-entry
+decreases-loop-entry g l = length l.reader.rest.now

@@ -1,26 +1,16 @@
 use Rattle.std.proofs.Common.{Err, sym, ap, ◌∙◌}
 use Rattle.std.proofs.lemmas.Result.{err_from_is_err_and}
-use Rattle.roundfile.specs.Reading.{place, step}
-use Rattle.roundcheck.proofs.Reading.{gave_by, ended_by, refused_by, no_draws}
+use Rattle.roundcheck.proofs.Reading.{none_for_draws, no_draws}
 use Rattle.roundcheck.specs.Checks.{next_draws}
 use Rattle.roundcheck.specs.Runs.{found_in}
 use Rattle.roundcheck.proofs.wanted.next_draws.Goals as goal
 
-pub returns-in_err-entry : goal.returns-in_err-entry
-returns-in_err-entry c =
-    let s = step (place c.args.reader.now) in
+pub returns-in_err-offset : goal.returns-in_err-offset
+returns-in_err-offset c =
     let e = err_from_is_err_and c.from_residual.result c.from_residual.ensures.1 in
-    rw e.1 (ap next_draws (refused_by s _ c.in_err-entry.ensures.gives) ∙ ap Err (sym e.2))
+    rw (e.1, e.2) (none_for_draws _ _ c.in_err-offset.ensures)
 
 pub returns-in_default : goal.returns-in_default
 returns-in_default c =
-    let p = place c.args.reader.now in
-    let q = place c.next_record.new.self in
-    let told = c.in_ok-entry.ensures in
-    let f = found_in c.in-Some.entry in
-    ap next_draws (gave_by (step p) p q f (rw c.in-Some.is at told.gives) told.leaves) ∙ no_draws f q c.in-Some.entry.record c.in_default.not-Draws ∙ ap Err (sym c.at.ensures)
-
-pub returns-in-None : goal.returns-in-None
-returns-in-None c =
-    let told = c.in_ok-entry.ensures in
-    ap next_draws (ended_by (step (place c.args.reader.now)) (rw c.in-None.is at told.gives)) ∙ ap Err (sym c.at-in-None.ensures)
+    let entry = c.in_ok-offset.field-0 in
+    ap next_draws c.in_ok-offset.ensures ∙ no_draws (found_in entry) _ entry.record c.in_default.not-Draws ∙ ap Err (sym c.at.ensures)
