@@ -17,18 +17,6 @@ unfolding network
 network_none zero e = refl
 network_none (suc k) e = absurd (omega arith)
 
--- the whole, of k levels, from its halves, of j levels
-pub network_step : (k j m : ℕ) → 0 < k → j ≡ k - 1 → m ≡ 2 ^ j → network k ≡ doubled (network j) m
-unfolding network
-network_step zero j m h l f = absurd (omega arith)
-network_step (suc k) j m h l f =
-    let e : k ≡ j = omega arith in
-    ap (λ i. doubled (network i) (2 ^ i)) e ∙ ap (doubled (network j)) (sym f)
-
--- what stands in the whole, by its halves
-pub in_whole : (k j m i : ℕ) (o : Option Comparator) → (0 < k) × (j ≡ k - 1) → m ≡ 2 ^ j → o ≡ nth (doubled (network j) m) i → o ≡ nth (network k) i
-in_whole k j m i o h e f = f ∙ ap (λ cs. nth cs i) (sym (network_step k j m h.0 h.1 e))
-
 -- the wires of a half's comparator are below 64
 pub half_below : (k i : ℕ) (o : Option Comparator) → k ≤ 6 → o ≡ nth (network k) i → IfSome o (λ c. (c.first < 64) × (c.second < 64))
 half_below k i None l e = tt

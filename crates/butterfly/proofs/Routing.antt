@@ -1,5 +1,5 @@
 -- The steps of the route, as the code comes by them.
-use Rattle.std.proofs.Common.{◌≡◌, ℕ, zero, suc, ◌+◌, ◌-◌, ◌*◌, ◌/◌, ◌^◌, ◌<◌, ◌≤◌, List, length, take, set, replicate, refl, sym, ap, ◌∙◌, subst, ap₂, pow-suc, arith, pow_pos, pow_mono}
+use Rattle.std.proofs.Common.{◌≡◌, ℕ, zero, suc, ◌+◌, ◌-◌, ◌*◌, ◌/◌, ◌^◌, ◌<◌, ◌≤◌, List, length, take, set, replicate, refl, sym, ap, ◌∙◌, subst, ap₂, pow-suc, arith}
 use Rattle.std.proofs.lemmas.List.{length-append, length-map, length-take-le, get_or-take}
 use Rattle.std.proofs.lemmas.List.FromFn.{length-range_with_len}
 use Rattle.plan.specs.declared.Setting.{Setting}
@@ -7,14 +7,13 @@ use Rattle.plan.specs.Plans.{at, source, Inverse, Permutation, Tabled, Brings}
 use Rattle.plan.proofs.Running.{brings_from}
 use Rattle.butterfly.specs.declared.Half.{Half}
 use Rattle.butterfly.specs.declared.Half.TheVariants.{Even}
-use Rattle.butterfly.specs.Halves.{side, sides, other, network, doubled, Halved, half_of, Sends}
+use Rattle.butterfly.specs.Halves.{side, sides, other, network, doubled, Halved, half_of, Sends, IsInParts}
 use Rattle.butterfly.specs.Listing.{butterfly}
 use Rattle.butterfly.specs.Colours.{Coloured, Contracted, partner, first_half, assigned}
 use Rattle.butterfly.specs.Colouring.{assigned_step, contracted_all}
 use Rattle.butterfly.specs.Halving.{partner_is, halved}
 use Rattle.butterfly.specs.Network.{joined_settings, combined}
 use Rattle.butterfly.specs.Placing.{butterfly_is, butterfly_lawful}
-use Rattle.butterfly.proofs.Finding.{network_step}
 
 pub assign_more : (t : List ℕ) (j m : ℕ) (c r : List Half) (h o : Half) → j < m → h ≡ first_half t j c → o ≡ other h →
     assigned t j (m - j) c ≡ r → assigned t (j + 1) (m - (j + 1)) (set (set c (2 * j) h) (2 * j + 1) o) ≡ r
@@ -74,40 +73,26 @@ inverse_like m n p q p' q' z e f v =
       forth = λ x h. ap p' (f x (omega arith)) ∙ e (q x) (v.fro x (omega arith)) ∙ v.forth x (omega arith);
     }
 
--- a whole of k levels has twice the wires of its halves, of j levels
-pub in_pairs : (k j m : ℕ) → 0 < k → j ≡ k - 1 → m ≡ 2 ^ j → 2 ^ k ≡ 2 * m
-in_pairs zero j m h l e = absurd (omega arith)
-in_pairs (suc k) j m h l e =
-    let z : 2 ^ j ≡ 2 ^ k = ap (λ i. 2 ^ i) (omega arith) in
+-- a butterfly of k levels in parts, its halves of one level less
+pub in_parts : (k j m n : ℕ) → 0 < k → j ≡ k - 1 → m ≡ 2 ^ j → n ≡ length (network j) → IsInParts k j m n
+unfolding network
+in_parts zero j m n h i e f = absurd (omega arith)
+in_parts (suc k) j m n h i e f =
+    let l : k ≡ j = omega arith in
+    let z : 2 ^ j ≡ 2 ^ k = ap (λ x. 2 ^ x) (sym l) in
     let t = pow-suc 2 k in
-    omega arith
-
--- the parts of a butterfly of k levels: m pairs, two halves of n comparators, and m - 1 pairs
-pub record Parts (k m n : ℕ) (p q : ℕ → ℕ) : Type 0 where
-  pub some : 1 ≤ m
-  pub few : m ≤ 32
-  pub wires : 2 ^ k ≡ 2 * m
-  pub comparators : length (network k) ≡ m + 2 * n + (m - 1)
-  pub inverses : Inverse (2 * m) p q
-
-pub parts : (k j m n : ℕ) (p q : ℕ → ℕ) → (0 < k) × (j ≡ k - 1) → k ≤ 6 → m ≡ 2 ^ j → n ≡ length (network j) → Inverse (2 ^ k) p q → Parts k m n p q
-parts k j m n p q h l e f v =
-    let h1 = h.1 in
-    let o = pow_pos j in
-    let b = pow_mono {i = j} {j = 5} (omega arith) in
-    let s = ap length (network_step k j m h.0 h.1 e) in
-    let t : length (doubled (network j) m) ≡ m + 2 * n + (m - 1) = simp (length-append, length-map, length-range_with_len) (omega arith) in
-    let w = in_pairs k j m h.0 h.1 e in
-    record { some = omega arith; few = omega arith; wires = w; comparators = s ∙ t; inverses = subst (λ (z : ℕ). Inverse z p q) w v }
+    let s : network (suc k) ≡ doubled (network j) m = ap (λ x. doubled (network x) (2 ^ x)) l ∙ ap (doubled (network j)) (sym e) in
+    let d : length (doubled (network j) m) ≡ m + 2 * n + (m - 1) = simp (length-append, length-map, length-range_with_len) (omega arith) in
+    record { smaller = omega arith; wires = omega arith; listing = s; count = ap length s ∙ d }
 
 -- the settings of the halves and of the two layers
-pub sends : (k j m : ℕ) (p q c d pe po : ℕ → ℕ) (es os ss : List Setting) → 0 < k → j ≡ k - 1 → m ≡ 2 ^ j → Halved m p q c d → c 0 ≡ 0 →
+pub sends : (k j m n : ℕ) (p q c d pe po : ℕ → ℕ) (es os ss : List Setting) → IsInParts k j m n → m ≡ 2 ^ j → Halved m p q c d → c 0 ≡ 0 →
     length es ≡ length (network j) → length os ≡ length (network j) →
     ((i : ℕ) → i < m → pe i ≡ half_of p c 0 i) → ((i : ℕ) → i < m → po i ≡ half_of p c 1 i) →
     Sends j es pe → Sends j os po → ss ≡ joined_settings c d es os m → Sends k ss p
-sends k j m p q c d pe po es os ss h i e v z le lo ee eo se so f x l =
-    let n = in_pairs k j m h i e in
-    ap (λ cs. source cs ss x) (network_step k j m h i e) ∙ ap (λ ts. source (doubled (network j) m) ts x) f
+sends k j m n p q c d pe po es os ss h e v z le lo ee eo se so f x l =
+    let w = h.wires in
+    ap (λ cs. source cs ss x) h.listing ∙ ap (λ ts. source (doubled (network j) m) ts x) f
     ∙ combined (network j) m p q c d es os v z le lo (λ i b. se i (omega arith) ∙ ee i b) (λ i b. so i (omega arith) ∙ eo i b) x (omega arith)
 
 pub sends_none : (k : ℕ) (ss : List Setting) (p q : ℕ → ℕ) → k ≡ 0 → Inverse (2 ^ k) p q → Sends k ss p

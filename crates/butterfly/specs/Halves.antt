@@ -1,6 +1,6 @@
 -- The two halves of a butterfly, by numbers: what is on place x of the even half is on wire 2 * x, of the odd half on
 -- wire 2 * x + 1. An item goes through one half, and the two items of a pair through different ones.
-use Rattle.std.specs.Prelude.{◌≡◌, ℕ, zero, suc, ◌+◌, ◌-◌, ◌*◌, ◌/◌, ◌^◌, ◌<◌, cond, List, [], ◌++◌, map, ◌==◌, slice_index_or}
+use Rattle.std.specs.Prelude.{◌≡◌, ℕ, zero, suc, ◌+◌, ◌-◌, ◌*◌, ◌/◌, ◌^◌, ◌<◌, cond, List, [], ◌++◌, map, length, ◌==◌, slice_index_or}
 use Rattle.std.specs.List.{range_with_len}
 use Rattle.plan.specs.declared.Setting.{Setting}
 use Rattle.plan.specs.declared.Setting.TheVariants.{Straight, Swapped}
@@ -36,6 +36,13 @@ doubled cs m = map pair (range_with_len 0 m) ++ (map (in_half 0) cs ++ (map (in_
 unfoldable pub network : ℕ → List Comparator
 network zero = []
 network (suc k) = doubled (network k) (2 ^ k)
+
+-- the butterfly over 2 ^ k wires has m pairs, two halves over 2 ^ j wires with n comparators each, and m - 1 pairs
+pub record IsInParts (k j m n : ℕ) : Type 0 where
+  pub smaller : j < k
+  pub wires : 2 ^ k ≡ 2 * m
+  pub listing : network k ≡ doubled (network j) m
+  pub count : length (network k) ≡ m + 2 * n + (m - 1)
 
 -- how a pair is set whose first item goes through the half s
 abbrev pub setting_for : ℕ → Setting

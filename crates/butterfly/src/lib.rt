@@ -3,7 +3,7 @@
 ghost use Rattle.std.specs.Prelude.{◌≡◌, ℕ, ◌+◌, ◌-◌, ◌*◌, ◌/◌, ◌^◌, ◌<◌, ◌≤◌, List, map, length, replicate, IfSome, MatchOption, MatchResult};
 ghost use Rattle.std.specs.Option.{option_map};
 ghost use Rattle.plan.specs.Plans.{nth, at, source, Inverse, Within, Routed};
-ghost use Rattle.butterfly.specs.Halves.{side, other, sides, pair, in_half, network, setting_for, layer, member, half_of, Sends};
+ghost use Rattle.butterfly.specs.Halves.{side, other, sides, pair, in_half, network, setting_for, layer, member, half_of, Sends, IsInParts};
 ghost use Rattle.butterfly.specs.Listing.{butterfly, Unfit};
 ghost use Rattle.butterfly.specs.declared.Half.TheVariants.{Even};
 ghost use Rattle.butterfly.specs.Colours.{Matching, Coloured, Contracted, partner, first_half, assigned};
@@ -72,12 +72,17 @@ struct Levels {
 }
 
 impl Levels {
-    // The levels of each half; a single wire has no halves.
-    fn halved(self) -> Option<Levels>
-        ensures { MatchOption result (self.count ≡ 0) (λ half. (0 < self.count) × (half.count ≡ self.count - 1)) }
+    // The parts; a single wire has none.
+    fn parts(self) -> Option<Parts>
+        ensures { MatchOption result (self.count ≡ 0) (λ p. IsInParts self.count p.half.count p.pairs p.inner) }
     {
         let count = self.count.checked_sub(1)?;
-        Some(Levels { count })
+        let half = Levels { count };
+        Some(Parts {
+            half,
+            pairs: half.wires(),
+            inner: half.comparators(),
+        })
     }
 
     // The number of wires.
@@ -97,6 +102,18 @@ impl Levels {
         let wires = self.wires();
         self.count * wires + 1 - wires
     }
+}
+
+// The parts of a butterfly: pairs, two halves with so many comparators each, and the pairs but the first again.
+#[derive(Clone, Copy)]
+struct Parts {
+    half: Levels,
+    pairs: usize,
+    inner: usize,
+    ghost wires: { pairs ≡ 2 ^ half.count },
+    ghost comparators: { inner ≡ length (network half.count) },
+    ghost some: { 1 ≤ pairs },
+    ghost few: { (pairs ≤ 32) × (inner ≤ 384) },
 }
 
 // The half of a butterfly that an item goes through.
@@ -170,17 +187,17 @@ fn on_wires(inner: Option<Comparator>, half: Half) -> Option<Comparator>
 fn listed(levels: Levels, k: usize) -> Option<Comparator>
     ensures { result ≡ nth (network levels.count) k }
 {
-    let half = levels.halved()?;
-    let pairs = half.wires();
-    let inner = half.comparators();
+    let parts = levels.parts()?;
+    let pairs = parts.pairs;
+    let inner = parts.inner;
     if k < pairs {
         return Some(pair_of(k));
     }
     if k < pairs + inner {
-        return on_wires(listed(half, k - pairs), Half::Even);
+        return on_wires(listed(parts.half, k - pairs), Half::Even);
     }
     if k < pairs + 2 * inner {
-        return on_wires(listed(half, k - pairs - inner), Half::Odd);
+        return on_wires(listed(parts.half, k - pairs - inner), Half::Odd);
     }
     let i = k - pairs - 2 * inner;
     if i < pairs - 1 {
@@ -325,11 +342,10 @@ fn route_over(levels: Levels, entries: &[u8], inverse: &[u8], settings: &mut [Se
     requires places { length settings.old ≡ length (network levels.count) }
     ensures { Sends levels.count settings.new (at entries.now) }
 {
-    let Some(half) = levels.halved() else {
+    let Some(parts) = levels.parts() else {
         return;
     };
-    let count = half.wires();
-    let inner = half.comparators();
+    let count = parts.pairs;
     let pairs = Pairs {
         count,
         entries,
@@ -340,8 +356,8 @@ fn route_over(levels: Levels, entries: &[u8], inverse: &[u8], settings: &mut [Se
     let starts = pairs.halves_by_start(ends);
     let starts = &starts[..2 * count];
     let (first, rest) = settings.split_at_mut(count);
-    let (even, rest) = rest.split_at_mut(inner);
-    let (odd, last) = rest.split_at_mut(inner);
+    let (even, rest) = rest.split_at_mut(parts.inner);
+    let (odd, last) = rest.split_at_mut(parts.inner);
     let mut there = [0; 64];
     let mut back = [0; 64];
     let there = &mut there[..count];
@@ -349,9 +365,9 @@ fn route_over(levels: Levels, entries: &[u8], inverse: &[u8], settings: &mut [Se
     set_layer(first, starts, 0);
     halve(entries, ends, Half::Even, there);
     halve(inverse, starts, Half::Even, back);
-    route_over(half, there, back, even);
+    route_over(parts.half, there, back, even);
     halve(entries, ends, Half::Odd, there);
     halve(inverse, starts, Half::Odd, back);
-    route_over(half, there, back, odd);
+    route_over(parts.half, there, back, odd);
     set_layer(last, ends, 1);
 }
