@@ -40,7 +40,7 @@ partners_coloured m o ts us d b l e n k f =
 sides_part : (n : ℕ) (hs : List Half) (x : ℕ) → x < n → sides (take n hs) x ≡ sides hs x
 sides_part n hs x h = ap side (get_or-take n hs x Even h)
 
-pub coloured_part : (m : ℕ) (p q : ℕ → ℕ) (hs : List Half) → 1 ≤ m → Inverse (2 * m) p q → Coloured m (partner p q) (sides hs) →
+coloured_part : (m : ℕ) (p q : ℕ → ℕ) (hs : List Half) → 1 ≤ m → Inverse (2 * m) p q → Coloured m (partner p q) (sides hs) →
     Coloured m (partner p q) (sides (take (2 * m) hs))
 coloured_part m p q hs h v k =
     let w = (partner_is m p q v).within in
@@ -52,7 +52,7 @@ coloured_part m p q hs h v k =
     }
 
 -- the two tables of halves
-pub halved_like : (m : ℕ) (p q c : ℕ → ℕ) (hs : List Half) → Inverse (2 * m) p q → Coloured m (partner p q) c → ((y : ℕ) → y < 2 * m → sides hs y ≡ c (q y)) →
+halved_like : (m : ℕ) (p q c : ℕ → ℕ) (hs : List Half) → Inverse (2 * m) p q → Coloured m (partner p q) c → ((y : ℕ) → y < 2 * m → sides hs y ≡ c (q y)) →
     Halved m p q c (sides (take (2 * m) hs))
 halved_like m p q c hs v k f =
     let w = halved m p q c v k in
@@ -72,6 +72,15 @@ inverse_like m n p q p' q' z e f v =
       back = λ x h. ap q' (e x (omega arith)) ∙ f (p x) (v.to x (omega arith)) ∙ v.back x (omega arith);
       forth = λ x h. ap p' (f x (omega arith)) ∙ e (q x) (v.fro x (omega arith)) ∙ v.forth x (omega arith);
     }
+
+-- the halves of the items that end and that start on the wires, and that wire 0 ends with an item of the even half
+pub halved_by : (k m : ℕ) (p q : ℕ → ℕ) (es ss : List Half) → 1 ≤ m → 2 ^ k ≡ 2 * m → Inverse (2 ^ k) p q → Coloured m (partner p q) (sides es) →
+    ((y : ℕ) → y < 2 * m → sides ss y ≡ sides (take (2 * m) es) (q y)) →
+    Halved m p q (sides (take (2 * m) es)) (sides (take (2 * m) ss)) × (sides (take (2 * m) es) 0 ≡ 0)
+halved_by k m p q es ss h w v c f =
+    let i = subst (λ (z : ℕ). Inverse z p q) w v in
+    let e = coloured_part m p q es h i c in
+    (halved_like m p q (sides (take (2 * m) es)) ss i e f, e.first)
 
 -- a butterfly of k levels in parts, its halves of one level less
 pub in_parts : (k j m n : ℕ) → 0 < k → j ≡ k - 1 → m ≡ 2 ^ j → n ≡ length (network j) → IsInParts k j m n

@@ -7,7 +7,7 @@ use Rattle.plan.specs.declared.Setting.TheVariants.{Straight, Swapped}
 use Rattle.plan.specs.declared.Comparator.{Comparator}
 use Rattle.plan.specs.Plans.{Within, came_from, source, nth}
 use Rattle.plan.specs.Sums.{changed, run_changing, word_taken, route_sum, Adds, SumsAlongRoutes}
-use Rattle.plan.proofs.Running.{source_brought, nth_drop}
+use Rattle.plan.proofs.Running.{source_below, source_brought, nth_drop}
 
 pub length_changed : {X : Type 0} (act : X → ℕ → X) (d : X) (c : Comparator) (s : Setting) (w : ℕ × ℕ) (xs : List X) → length (changed act d c s w xs) ≡ length xs
 length_changed act d c Straight w xs = simp length-set
@@ -80,3 +80,7 @@ pub back_all : (cs : List Comparator) (ss : List Setting) (ws : List (ℕ × ℕ
     m ≡ route_sum (drop k cs) (drop k ss) (drop k ws) x → (y ≡ source cs ss x) × (m ≡ route_sum cs ss ws x)
 back_all cs ss ws x zero y m h f g = (f, g)
 back_all cs ss ws x (suc k) y m h f g = absurd (omega arith)
+
+pub back_below : (n : ℕ) (cs : List Comparator) (ss : List Setting) (x k y : ℕ) → Within n cs → x < n → k ≤ 0 → y ≡ source (drop k cs) (drop k ss) x → y < n
+back_below n cs ss x zero y w h l f = let b = source_below n cs ss x w h in omega arith
+back_below n cs ss x (suc k) y w h l f = absurd (omega arith)

@@ -44,6 +44,45 @@ pub struct Comparator {
     pub second: usize,
 }
 
+impl Comparator {
+    // Works on the items.
+    fn apply<T>(self, setting: Setting, items: &mut [T])
+        requires first { self.first < length items.old }
+        requires second { self.second < length items.old }
+        ensures { items.new ≡ applied self setting items.old }
+    {
+        match setting {
+            Setting::Straight => {}
+            Setting::Swapped => items.swap(self.first, self.second),
+        }
+    }
+
+    // The wire on which the item came that leaves on a wire.
+    fn came_from(self, setting: Setting, wire: usize) -> usize
+        ensures { result ≡ came_from self setting wire }
+    {
+        match setting {
+            Setting::Straight => wire,
+            Setting::Swapped if wire == self.first => self.second,
+            Setting::Swapped if wire == self.second => self.first,
+            Setting::Swapped => wire,
+        }
+    }
+
+    // The word that the item takes which leaves on a wire; 0 where it did not pass.
+    fn word_taken(self, words: (u64, u64), wire: usize) -> u64
+        ensures { result ≡ word_taken self words wire }
+    {
+        if wire == self.first {
+            words.0
+        } else if wire == self.second {
+            words.1
+        } else {
+            0
+        }
+    }
+}
+
 // A plan over 2 to 64 wires: 1 to 4,096 comparators with settings for every permutation.
 pub trait Plan {
     ghost width: { Self → ℕ };
@@ -69,18 +108,6 @@ pub trait Plan {
     ghost lawful: { (p : Self) → Lawful (width p) (listing p) };
 }
 
-// Lets one comparator work on the items.
-fn apply<T>(comparator: Comparator, setting: Setting, items: &mut [T])
-    requires first { comparator.first < length items.old }
-    requires second { comparator.second < length items.old }
-    ensures { items.new ≡ applied comparator setting items.old }
-{
-    match setting {
-        Setting::Straight => {}
-        Setting::Swapped => items.swap(comparator.first, comparator.second),
-    }
-}
-
 // Whether there is a setting for each comparator and an item on each wire.
 fn fits<P: Plan>(plan: &P, settings: usize, items: usize) -> bool
     ensures { Decides result ((settings ≡ length (P.Plan.listing plan.now)) × (items ≡ P.Plan.width plan.now)) }
@@ -98,7 +125,7 @@ pub fn run_plan<P: Plan, T>(plan: &P, settings: &[Setting], items: &mut [T]) -> 
     }
     for (k, setting) in settings.iter().enumerate() {
         if let Some(comparator) = plan.comparator(k) {
-            apply(comparator, *setting, items);
+            comparator.apply(*setting, items);
         }
     }
     Ok(())
@@ -189,31 +216,6 @@ fn inverted(permutation: &[usize]) -> Option<[u8; 64]>
     Some(inverse)
 }
 
-// The wire on which the item came to a comparator that it leaves on a wire.
-fn came_from(comparator: Comparator, setting: Setting, wire: usize) -> usize
-    ensures { result ≡ came_from comparator setting wire }
-{
-    match setting {
-        Setting::Straight => wire,
-        Setting::Swapped if wire == comparator.first => comparator.second,
-        Setting::Swapped if wire == comparator.second => comparator.first,
-        Setting::Swapped => wire,
-    }
-}
-
-// The word that an item takes which leaves a comparator on a wire; 0 where it did not pass it.
-fn word_taken(comparator: Comparator, words: (u64, u64), wire: usize) -> u64
-    ensures { result ≡ word_taken comparator words wire }
-{
-    if wire == comparator.first {
-        words.0
-    } else if wire == comparator.second {
-        words.1
-    } else {
-        0
-    }
-}
-
 // Follows the item that ends on a wire back to its start: the item, and the sum of the words along its route. None
 // where a list does not fit the plan or there is no such wire.
 pub fn follow<'a, P: Plan, T>(
@@ -237,8 +239,8 @@ pub fn follow<'a, P: Plan, T>(
     // By number, since the plan's comparators are asked for by number; a zip of the lists would be numbered too.
     for k in (0..settings.len()).rev() {
         if let Some(comparator) = plan.comparator(k) {
-            sum += word_taken(comparator, words[k], start) as u128;
-            start = came_from(comparator, settings[k], start);
+            sum += comparator.word_taken(words[k], start) as u128;
+            start = comparator.came_from(settings[k], start);
         }
     }
     Some((&items[start], sum))

@@ -1,8 +1,11 @@
 #![tactic(auto)]
 
-ghost use Rattle.std.specs.Prelude.{◌≡◌, ℕ, ◌<◌, IfOk};
+ghost use Rattle.std.specs.Prelude.{◌≡◌, ℕ, ◌<◌, IfOk, MatchResult};
 ghost use Rattle.std.specs.List.{range_with_len};
 ghost use Rattle.plan.specs.Plans.{Brings};
+ghost use Rattle.kinds.specs.Kinds.{plan_kind};
+ghost use Rattle.refusal.specs.Table.{refused_at};
+ghost use Rattle.refusal.specs.declared.Reason.TheVariants.{UnknownGroupOrPlan};
 
 use anyhow::anyhow;
 use kinds::{KnownPlan, PlanKind};
@@ -52,7 +55,9 @@ fn route_on<P: Plan>(heap: Global, plan: &P, entries: &[usize]) -> Result<Answer
 }
 
 // The kind of plan of this number.
-fn kind_of(number: usize) -> Result<PlanKind, Refusal> {
+fn kind_of(number: usize) -> Result<PlanKind, Refusal>
+    ensures { MatchResult result (λ kind. plan_kind number ≡ Some kind) (λ e. (plan_kind number ≡ None) × (e ≡ refused_at UnknownGroupOrPlan 0)) }
+{
     u32::try_from(number)
         .ok()
         .and_then(|number| PlanKind::try_from(number).ok())

@@ -1,8 +1,8 @@
 use Rattle.std.proofs.Common.{◌-◌, length, get_or, sym, ap, ◌∙◌, ⊎_elim, true≢false, arith}
 use Rattle.std.proofs.lemmas.List.{get_or_read}
 use Rattle.plan.specs.declared.Setting.TheVariants.{Straight}
-use Rattle.plan.proofs.Running.{nth_none, source_below}
-use Rattle.plan.proofs.Totals.{sums_along_routes, back_none, back_wire, back_sum, back_all}
+use Rattle.plan.proofs.Running.{nth_none}
+use Rattle.plan.proofs.Totals.{sums_along_routes, back_none, back_wire, back_sum, back_all, back_below}
 use Rattle.plan.proofs.follow.Goals as goal
 
 pub returns-then-not-fits : goal.returns-then-not-fits
@@ -32,28 +32,23 @@ loop-k-preserved g c = absurd (let n = nth_none (g.P.Plan.listing c.args.plan.no
 
 pub offset_bounds-items-start : goal.offset_bounds-items-start
 offset_bounds-items-start g c =
-    let w = (g.met.P.Plan.lawful c.args.plan.now).within in
-    let b = back_all _ c.args.settings.now c.args.words.now c.args.wire c.loop-k.k c.loop-k.start c.loop-k.sum c.loop-k-test.false c.loop-k.invariant.0 c.loop-k.invariant.1 in
-    let l = source_below _ _ c.args.settings.now c.args.wire w in
-    omega (arith, l (omega arith), b.0)
+    let l = back_below _ _ c.args.settings.now c.args.wire c.loop-k.k c.loop-k.start (g.met.P.Plan.lawful c.args.plan.now).within (omega arith) c.loop-k-test.false c.loop-k.invariant.0 in
+    omega arith
 
 pub bounds-items-start : goal.bounds-items-start
 bounds-items-start g c =
-    let w = (g.met.P.Plan.lawful c.args.plan.now).within in
-    let b = back_all _ c.args.settings.now c.args.words.now c.args.wire c.loop-k.k c.loop-k.start c.loop-k.sum c.loop-k-test.false c.loop-k.invariant.0 c.loop-k.invariant.1 in
-    let l = source_below _ _ c.args.settings.now c.args.wire w in
-    omega (arith, l (omega arith), b.0)
+    let l = back_below _ _ c.args.settings.now c.args.wire c.loop-k.k c.loop-k.start (g.met.P.Plan.lawful c.args.plan.now).within (omega arith) c.loop-k-test.false c.loop-k.invariant.0 in
+    omega arith
 
 pub returns : goal.returns
 returns g c =
-    let w = (g.met.P.Plan.lawful c.args.plan.now).within in
+    let l = back_below _ _ c.args.settings.now c.args.wire c.loop-k.k c.loop-k.start (g.met.P.Plan.lawful c.args.plan.now).within (omega arith) c.loop-k-test.false c.loop-k.invariant.0 in
     let b = back_all _ c.args.settings.now c.args.words.now c.args.wire c.loop-k.k c.loop-k.start c.loop-k.sum c.loop-k-test.false c.loop-k.invariant.0 c.loop-k.invariant.1 in
-    let l = source_below _ _ c.args.settings.now c.args.wire w in
     let xs = c.args.items.now in
     record {
       followed =
           record {
-            item = λ d. get_or_read xs c.loop-k.start c.index-items-start.result (omega (arith, l (omega arith), b.0)) c.index-items-start.is d ∙ ap (λ i. get_or xs i d) b.0;
+            item = λ d. get_or_read xs c.loop-k.start c.index-items-start.result (omega arith) c.index-items-start.is d ∙ ap (λ i. get_or xs i d) b.0;
             total = b.1;
           };
       sums = sums_along_routes _;
