@@ -2,7 +2,7 @@
 
 mod line;
 
-use line::line;
+use line::Shown;
 use roundfile::reader::Reader;
 use std::io;
 use std::io::Read;
@@ -15,7 +15,7 @@ fn list(rt: &HostRuntime, file: &[u8]) -> io::Result<()> {
     };
     loop {
         match reader.next_record() {
-            Ok(Some(entry)) => rt.println(line(rt.alloc(), entry)?)?,
+            Ok(Some(entry)) => rt.println(Shown(entry))?,
             Ok(None) => return Ok(()),
             Err(refusal) => return println!(rt; "{refusal}"),
         }
