@@ -7,7 +7,7 @@ use roundfile::reader::Reader;
 use std::io;
 use std::io::Read;
 
-// Prints a line for each record of the file, up to its end or to the refusal.
+// Prints a line for each record of the file, up to its end or to the refusal, which is a line too and no error.
 fn list(rt: &HostRuntime, file: &[u8]) -> io::Result<()> {
     let mut reader = match Reader::new(file) {
         Ok(reader) => reader,
