@@ -1,5 +1,4 @@
-pub mod Copies
-pub mod Copying
+pub mod Filling
 pub mod Meanings
 pub mod Stepping
 pub mod Calling

@@ -50,6 +50,20 @@ on_wires_map f wires (Some c) = ap (λ (n : ℕ). cond (ltb c.second n) (Some c)
 pub next_map : {X Y : Type 0} (f : X → Y) (cs : List Comparator) (s : State X) → next_comparator cs (state_map f s) ≡ next_comparator cs s
 next_map f cs s = ap (λ (o : Option Comparator). cond (is_turning s.stage) o None) (on_wires_map f s.wires (nth cs s.next))
 
+off_wires : (b : Bool) (c : Comparator) (rest : Option Reason) → cond b (Some c) None ≡ None → unless b WrongStage rest ≡ Some WrongStage
+off_wires true c rest e = absurd (let z : ◌≡◌ {A = ℕ} 0 1 = cc in omega arith)
+off_wires false c rest e = refl
+
+-- in a turn a step is refused where no comparator is next
+pub unmet : {P : Type 0} (T : Terms P) (s : State (Ciphertext P)) (m : Message P ℕ)
+    → s.stage ≡ Turning → next_comparator T.comparators s ≡ None → judge_step T s m (nth T.comparators s.next) ≡ Some WrongStage
+unmet T s m turning e =
+    by (nth T.comparators s.next) (ap (λ (t : Stage). cond (is_turning t) (on_the_wires s.wires (nth T.comparators s.next)) None) (sym turning) ∙ e)
+  where
+    by : (o : Option Comparator) → on_the_wires s.wires o ≡ None → judge_step T s m o ≡ Some WrongStage
+    by None e = refl
+    by (Some c) e = off_wires (ltb c.second (length s.wires)) c _ e
+
 -- within a list every default does
 pub get_or_within : {X : Type 0} (xs : List X) (i : ℕ) (d e : X) → i < length xs → get_or xs i d ≡ get_or xs i e
 get_or_within [] i d e h = absurd (omega (arith, h))
@@ -61,6 +75,11 @@ outcome_more None place P Q (Ok x) f h = f x h
 outcome_more None place P Q (Err e) f h = h
 outcome_more (Some why) place P Q (Ok x) f h = h
 outcome_more (Some why) place P Q (Err e) f h = h
+
+-- what is known at every d is known at one that the value picks
+pub made_at : {X E D : Type 0} (r : Result X E) (P : D → X → Type 0) (pick : X → D) → ((d : D) → IfOk r (P d)) → IfOk r (λ x. P (pick x) x)
+made_at (Ok x) P pick h = h (pick x)
+made_at (Err e) P pick h = tt
 
 pub made_more : {X E : Type 0} (r : Result X E) (P Q : X → Type 0) → ((x : X) → P x → Q x) → IfOk r P → IfOk r Q
 made_more (Ok x) P Q f h = f x h

@@ -1,5 +1,5 @@
 -- A step, by its judgement.
-use Rattle.std.proofs.Common.{◌≡◌, ℕ, zero, suc, ◌<◌, ◌≤◌, List, [], ◌∷◌, length, Some, None, Ok, Err, Option, sym, refl, subst, arith, le-ltb, lt-ltb}
+use Rattle.std.proofs.Common.{◌≡◌, ℕ, zero, suc, ◌<◌, List, [], ◌∷◌, length, Some, None, Ok, Err, Option, sym, refl, subst, arith, lt-ltb}
 use Rattle.elgamal.specs.declared.Ciphertext.{Ciphertext}
 use Rattle.equivalence.specs.Judgement.{judge, Answered}
 use Rattle.plan.specs.Plans.{nth, Within}
@@ -7,7 +7,6 @@ use Rattle.plan.specs.declared.Comparator.{Comparator}
 use Rattle.prover.specs.declared.states.Message.{Message}
 use Rattle.refusal.specs.Table.{refused_at}
 use Rattle.refusal.specs.declared.Reason.{Reason}
-use Rattle.refusal.specs.declared.Reason.TheVariants.{WrongStage}
 use Rattle.refusal.specs.declared.Refusal.{Refusal}
 use Rattle.board.specs.Calls.{Terms, judge_step, question}
 use Rattle.board.specs.States.{State}
@@ -24,9 +23,6 @@ on_wires n (d ∷ cs) (suc k) c w e =
     (r.0, r.1, omega (arith, r.2))
 
 module _ {P : Type 0} (T : Terms P) (s : State (Ciphertext P)) (m : Message P ℕ) (c : Comparator) where
-  pub outside : length s.wires ≤ c.second → judge_step T s m (Some c) ≡ Some WrongStage
-  outside h = simp (le-ltb c.second (length s.wires) h)
-
   pub inside : c.second < length s.wires → judge_step T s m (Some c) ≡ judge T.group T.exponents T.source (comparison_at T.key s.wires c m.outputs) m.proofs (question T s)
   inside h = simp (lt-ltb c.second (length s.wires) h)
 

@@ -17,13 +17,6 @@ unfolding network
 network_none zero e = refl
 network_none (suc k) e = absurd (omega arith)
 
-pub network_step : (k m : ℕ) → 0 < k → m ≡ 2 ^ (k - 1) → network k ≡ doubled (network (k - 1)) m
-unfolding network
-network_step zero m h f = absurd (omega arith)
-network_step (suc k) m h f =
-    let e : k ≡ suc k - 1 = omega arith in
-    ap (λ i. doubled (network i) (2 ^ i)) e ∙ ap (doubled (network (suc k - 1))) (sym f)
-
 -- the wires of a half's comparator are below 64
 pub half_below : (k i : ℕ) (o : Option Comparator) → k ≤ 6 → o ≡ nth (network k) i → IfSome o (λ c. (c.first < 64) × (c.second < 64))
 half_below k i None l e = tt

@@ -1,4 +1,3 @@
 pub mod Finding
-pub mod Writing
 pub mod Routing
 pub mod Examples

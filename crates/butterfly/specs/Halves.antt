@@ -1,6 +1,6 @@
 -- The two halves of a butterfly, by numbers: what is on place x of the even half is on wire 2 * x, of the odd half on
 -- wire 2 * x + 1. An item goes through one half, and the two items of a pair through different ones.
-use Rattle.std.specs.Prelude.{◌≡◌, ℕ, zero, suc, ◌+◌, ◌-◌, ◌*◌, ◌/◌, ◌^◌, ◌<◌, cond, List, [], ◌++◌, map, length, take, drop, ◌==◌, slice_index_or}
+use Rattle.std.specs.Prelude.{◌≡◌, ℕ, zero, suc, ◌+◌, ◌-◌, ◌*◌, ◌/◌, ◌^◌, ◌<◌, cond, List, [], ◌++◌, map, length, ◌==◌, slice_index_or}
 use Rattle.std.specs.List.{range_with_len}
 use Rattle.plan.specs.declared.Setting.{Setting}
 use Rattle.plan.specs.declared.Setting.TheVariants.{Straight, Swapped}
@@ -37,6 +37,13 @@ unfoldable pub network : ℕ → List Comparator
 network zero = []
 network (suc k) = doubled (network k) (2 ^ k)
 
+-- the butterfly over 2 ^ k wires has m pairs, two halves over 2 ^ j wires with n comparators each, and m - 1 pairs
+pub record IsInParts (k j m n : ℕ) : Type 0 where
+  pub smaller : j < k
+  pub wires : 2 ^ k ≡ 2 * m
+  pub listing : network k ≡ doubled (network j) m
+  pub count : length (network k) ≡ m + 2 * n + (m - 1)
+
 -- how a pair is set whose first item goes through the half s
 abbrev pub setting_for : ℕ → Setting
 setting_for s = cond (s == 1) Swapped Straight
@@ -64,14 +71,3 @@ half_of p c s i = p (member c s i) / 2
 -- under these settings the butterfly over 2 ^ k wires sends to wire x the item of wire p x
 abbrev pub Sends : ℕ → List Setting → (ℕ → ℕ) → Type 0
 Sends k ss p = (x : ℕ) → x < 2 ^ k → source (network k) ss x ≡ p x
-
--- the list xs with ys written over it from place a on
-abbrev pub written : {X : Type 0} → List X → ℕ → List X → List X
-written xs a ys = take a xs ++ (ys ++ drop (a + length ys) xs)
-
--- a route of p is written over the settings from a place on
-pub record RoutesAt (k start : ℕ) (p : ℕ → ℕ) (before after : List Setting) : Type 0 where
-  pub route : List Setting
-  pub count : length route ≡ length (network k)
-  pub sent : Sends k route p
-  pub stands : after ≡ written before start route

@@ -1,9 +1,9 @@
 #![tactic(auto)]
 
-ghost use Rattle.std.specs.Prelude.{◌≡◌, ℕ, ◌+◌, ◌-◌, ◌*◌, ◌/◌, ◌^◌, ◌<◌, ◌≤◌, List, map, length, replicate, IfSome, MatchResult};
+ghost use Rattle.std.specs.Prelude.{◌≡◌, ℕ, ◌+◌, ◌-◌, ◌*◌, ◌/◌, ◌^◌, ◌<◌, ◌≤◌, List, map, length, replicate, IfSome, MatchOption, MatchResult};
 ghost use Rattle.std.specs.Option.{option_map};
 ghost use Rattle.plan.specs.Plans.{nth, at, source, Inverse, Within, Routed};
-ghost use Rattle.butterfly.specs.Halves.{side, other, sides, pair, in_half, network, setting_for, layer, member, half_of, RoutesAt, written};
+ghost use Rattle.butterfly.specs.Halves.{side, other, sides, pair, in_half, network, setting_for, layer, member, half_of, Sends, IsInParts};
 ghost use Rattle.butterfly.specs.Listing.{butterfly, Unfit};
 ghost use Rattle.butterfly.specs.declared.Half.TheVariants.{Even};
 ghost use Rattle.butterfly.specs.Colours.{Matching, Coloured, Contracted, partner, first_half, assigned};
@@ -15,17 +15,19 @@ use refusal::{Reason, Refusal};
 // The plan in which the halves of the wires are routed between two layers of pairs.
 #[derive(Clone, Copy)]
 pub struct Butterfly {
-    levels: usize,
-    ghost fits: { (1 ≤ levels) × (levels ≤ 6) },
+    levels: Levels,
+    ghost some: { 1 ≤ levels.count },
 }
 
 impl Butterfly {
     // The butterfly over 2, 4, 8, 16, 32 or 64 wires.
     pub fn new(wires: usize) -> Result<Butterfly, Refusal>
-        ensures { MatchResult result (λ b. (2 ^ b.levels ≡ wires) × (length (butterfly b.levels) + wires ≡ b.levels * wires + 1)) (Unfit wires) }
+        ensures { MatchResult result (λ b. (2 ^ b.levels.count ≡ wires) × (length (butterfly b.levels.count) + wires ≡ b.levels.count * wires + 1)) (Unfit wires) }
     {
-        for levels in 1..7 {
-            if width(levels) == wires {
+        // A `find` is no plainer: its closure has to state which counts it takes.
+        for count in 1..7 {
+            let levels = Levels { count };
+            if levels.wires() == wires {
                 return Ok(Butterfly { levels });
             }
         }
@@ -34,18 +36,18 @@ impl Butterfly {
 }
 
 impl Plan for Butterfly {
-    ghost width = { λ b. 2 ^ b.levels };
+    ghost width = { λ b. 2 ^ b.levels.count };
 
-    ghost listing = { λ b. butterfly b.levels };
+    ghost listing = { λ b. butterfly b.levels.count };
 
-    ghost lawful = { λ p. butterfly_lawful p.levels p.fits.0 p.fits.1 };
+    ghost lawful = { λ p. butterfly_lawful p.levels.count p.some p.levels.few };
 
     fn wires(&self) -> usize {
-        width(self.levels)
+        self.levels.wires()
     }
 
     fn count(&self) -> usize {
-        size(self.levels)
+        self.levels.comparators()
     }
 
     fn comparator(&self, k: usize) -> Option<Comparator> {
@@ -56,15 +58,66 @@ impl Plan for Butterfly {
         if settings.len() != self.count() {
             return Err(Reason::UnfitLength.at(0));
         }
-        let wires = width(self.levels);
-        let shuffle = Shuffle::read(permutation, wires)?;
-        route_over(self.levels, &shuffle.entries, &shuffle.inverse, settings, 0);
+        let shuffle = Shuffle::read(permutation, self.levels.wires())?;
+        route_over(self.levels, shuffle.entries(), shuffle.inverse(), settings);
         Ok(())
     }
 }
 
-// The half of a butterfly that an item goes through.
+// How often the wires of a butterfly are halved until one is left.
 #[derive(Clone, Copy)]
+struct Levels {
+    count: usize,
+    ghost few: { count ≤ 6 },
+}
+
+impl Levels {
+    // The parts; a single wire has none.
+    fn parts(self) -> Option<Parts>
+        ensures { MatchOption result (self.count ≡ 0) (λ p. IsInParts self.count p.half.count p.pairs p.inner) }
+    {
+        let count = self.count.checked_sub(1)?;
+        let half = Levels { count };
+        Some(Parts {
+            half,
+            pairs: half.wires(),
+            inner: half.comparators(),
+        })
+    }
+
+    // The number of wires.
+    fn wires(self) -> usize
+        ensures value { result ≡ 2 ^ self.count }
+        ensures bound { (1 ≤ result) × (result ≤ 64) }
+    {
+        1 << self.count
+    }
+
+    // The number of comparators.
+    fn comparators(self) -> usize
+        ensures value { result ≡ length (network self.count) }
+        ensures listed { result ≡ length (butterfly self.count) }
+        ensures bound { result ≤ 384 }
+    {
+        let wires = self.wires();
+        self.count * wires + 1 - wires
+    }
+}
+
+// The parts of a butterfly: pairs, two halves with so many comparators each, and the pairs but the first again.
+#[derive(Clone, Copy)]
+struct Parts {
+    half: Levels,
+    pairs: usize,
+    inner: usize,
+    ghost wires: { pairs ≡ 2 ^ half.count },
+    ghost comparators: { inner ≡ length (network half.count) },
+    ghost some: { 1 ≤ pairs },
+    ghost few: { (pairs ≤ 32) × (inner ≤ 384) },
+}
+
+// The half of a butterfly that an item goes through.
+#[derive(Clone, Copy, PartialEq, Eq)]
 enum Half {
     Even,
     Odd,
@@ -102,26 +155,6 @@ impl Half {
     }
 }
 
-// The number of wires of a butterfly: it is halved `levels` times.
-fn width(levels: usize) -> usize
-    requires { levels ≤ 6 }
-    ensures value { result ≡ 2 ^ levels }
-    ensures bound { (1 ≤ result) × (result ≤ 64) }
-{
-    1 << levels
-}
-
-// The number of comparators of a butterfly.
-fn size(levels: usize) -> usize
-    requires { levels ≤ 6 }
-    ensures value { result ≡ length (network levels) }
-    ensures listed { result ≡ length (butterfly levels) }
-    ensures bound { result ≤ 384 }
-{
-    let wires = width(levels);
-    levels * wires + 1 - wires
-}
-
 fn pair_of(i: usize) -> Comparator
     requires { i < 64 }
     ensures { result ≡ pair i }
@@ -144,33 +177,27 @@ fn on_wires(inner: Option<Comparator>, half: Half) -> Option<Comparator>
     requires { IfSome inner (λ c. (c.first < 64) × (c.second < 64)) }
     ensures { result ≡ option_map (in_half (side half)) inner }
 {
-    match inner {
-        Some(c) => Some(Comparator {
-            first: half.wire(c.first),
-            second: half.wire(c.second),
-        }),
-        None => None,
-    }
+    inner.map(|c| Comparator {
+        first: half.wire(c.first),
+        second: half.wire(c.second),
+    })
 }
 
 // The k-th comparator: of the first pairs, of the even half, of the odd half, or of the last pairs.
-fn listed(levels: usize, k: usize) -> Option<Comparator>
-    requires { levels ≤ 6 }
-    ensures { result ≡ nth (network levels) k }
+fn listed(levels: Levels, k: usize) -> Option<Comparator>
+    ensures { result ≡ nth (network levels.count) k }
 {
-    if levels == 0 {
-        return None;
-    }
-    let pairs = width(levels - 1);
-    let inner = size(levels - 1);
+    let parts = levels.parts()?;
+    let pairs = parts.pairs;
+    let inner = parts.inner;
     if k < pairs {
         return Some(pair_of(k));
     }
     if k < pairs + inner {
-        return on_wires(listed(levels - 1, k - pairs), Half::Even);
+        return on_wires(listed(parts.half, k - pairs), Half::Even);
     }
     if k < pairs + 2 * inner {
-        return on_wires(listed(levels - 1, k - pairs - inner), Half::Odd);
+        return on_wires(listed(parts.half, k - pairs - inner), Half::Odd);
     }
     let i = k - pairs - 2 * inner;
     if i < pairs - 1 {
@@ -180,31 +207,62 @@ fn listed(levels: usize, k: usize) -> Option<Comparator>
     }
 }
 
-// For each end, the end of the item that starts beside the one which ends there.
-fn partners(pairs: usize, entries: &[u8; 64], inverse: &[u8; 64]) -> [u8; 64]
-    requires narrow { pairs ≤ 32 }
-    requires inverse { Inverse (2 * pairs) (at entries.now) (at inverse.now) }
-    ensures { (x : ℕ) → x < 2 * pairs → at result x ≡ partner (at entries.now) (at inverse.now) x }
-{
-    let mut table = [0; 64];
-    for x in 0..2 * pairs {
-        let start = entries[x] as usize;
-        // the other wire of its pair
-        let beside = start + 1 - 2 * (start % 2);
-        table[x] = inverse[beside];
+// A permutation of pairs of wires and its inverse, in lent tables.
+#[derive(Clone, Copy)]
+struct Pairs<'a> {
+    count: usize,
+    entries: &'a [u8],
+    inverse: &'a [u8],
+    ghost few: { count ≤ 32 },
+    ghost entries_long: { length entries.now ≡ 2 * count },
+    ghost inverse_long: { length inverse.now ≡ 2 * count },
+    ghost inverses: { Inverse (2 * count) (at entries.now) (at inverse.now) },
+}
+
+impl Pairs<'_> {
+    // For each end, the end of the item that starts beside the one which ends there.
+    fn partners(self) -> [u8; 64]
+        ensures { (x : ℕ) → x < 2 * self.entry.count → at result x ≡ partner (at self.entry.entries.now) (at self.entry.inverse.now) x }
+    {
+        let mut table = [0; 64];
+        for (x, entry) in self.entries.iter().enumerate() {
+            let start = *entry as usize;
+            // the other wire of its pair
+            let beside = start + 1 - 2 * (start % 2);
+            table[x] = self.inverse[beside];
+        }
+        table
     }
-    table
+
+    // The half of the item that ends on each wire.
+    fn halves_by_end(self) -> [Half; 64]
+        ensures { Coloured self.entry.count (partner (at self.entry.entries.now) (at self.entry.inverse.now)) (sides result) }
+    {
+        let mut partners = self.partners();
+        let table = &mut partners[..2 * self.count];
+        contract(table);
+        assign(table)
+    }
+
+    // The half of the item that starts on each wire.
+    fn halves_by_start(self, ends: &[Half]) -> [Half; 64]
+        requires { length ends.now ≡ 2 * self.count }
+        ensures { (y : ℕ) → y < 2 * self.entry.count → sides result y ≡ sides ends.now (at self.entry.inverse.now y) }
+    {
+        let mut starts = [Half::Even; 64];
+        for (y, end) in self.inverse.iter().enumerate() {
+            starts[y] = ends[*end as usize];
+        }
+        starts
+    }
 }
 
 // Takes the pairs out, last first, and makes the partners of the two ends of each partners of each other.
-fn contract(table: &mut [u8], pairs: usize)
-    requires long { 2 * pairs ≤ length table.old }
-    requires matching { Matching pairs (at table.old) }
-    ensures { Contracted 0 pairs table.new (at table.old) }
+fn contract(table: &mut [u8])
+    requires { Matching (length table.old / 2) (at table.old) }
+    ensures { Contracted 0 (length table.old / 2) table.new (at table.old) }
 {
-    let mut j = pairs;
-    while j > 0 {
-        j -= 1;
+    for j in (0..table.len() / 2).rev() {
         let a = table[2 * j];
         if (a as usize) < 2 * j {
             let b = table[2 * j + 1];
@@ -215,8 +273,9 @@ fn contract(table: &mut [u8], pairs: usize)
 }
 
 // The half of the first end of a pair, once the pairs before it have theirs.
-fn first_half(table: &[u8; 64], j: usize, halves: &[Half; 64]) -> Half
-    requires { j < 32 }
+fn first_half(table: &[u8], j: usize, halves: &[Half]) -> Half
+    requires table { 2 * j < length table.now }
+    requires halves { 2 * j ≤ length halves.now }
     ensures { result ≡ first_half table.now j halves.now }
 {
     let a = table[2 * j] as usize;
@@ -228,12 +287,12 @@ fn first_half(table: &[u8; 64], j: usize, halves: &[Half; 64]) -> Half
 }
 
 // Gives each pair its halves, first pair first.
-fn assign(table: &[u8; 64], pairs: usize) -> [Half; 64]
-    requires { pairs ≤ 32 }
-    ensures { result ≡ assigned table.now 0 pairs (replicate 64 Even) }
+fn assign(table: &[u8]) -> [Half; 64]
+    requires { length table.now ≤ 64 }
+    ensures { result ≡ assigned table.now 0 (length table.now / 2) (replicate 64 Even) }
 {
     let mut halves = [Half::Even; 64];
-    for j in 0..pairs {
+    for j in 0..table.len() / 2 {
         let half = first_half(table, j, &halves);
         halves[2 * j] = half;
         halves[2 * j + 1] = half.other();
@@ -241,96 +300,74 @@ fn assign(table: &[u8; 64], pairs: usize) -> [Half; 64]
     halves
 }
 
-// The half of the item that ends on each wire.
-fn halves_by_end(pairs: usize, entries: &[u8; 64], inverse: &[u8; 64]) -> [Half; 64]
-    requires narrow { pairs ≤ 32 }
-    requires inverse { Inverse (2 * pairs) (at entries.now) (at inverse.now) }
-    ensures { Coloured pairs (partner (at entries.now) (at inverse.now)) (sides result) }
-{
-    let mut table = partners(pairs, entries, inverse);
-    contract(&mut table, pairs);
-    assign(&table, pairs)
-}
-
-// The half of the item that starts on each wire.
-fn halves_by_start(pairs: usize, inverse: &[u8; 64], ends: &[Half; 64]) -> [Half; 64]
-    requires narrow { pairs ≤ 32 }
-    requires below { (y : ℕ) → y < 2 * pairs → at inverse.now y < 2 * pairs }
-    ensures { (y : ℕ) → y < 2 * pairs → sides result y ≡ sides ends.now (at inverse.now y) }
-{
-    let mut starts = [Half::Even; 64];
-    for y in 0..2 * pairs {
-        starts[y] = ends[inverse[y] as usize];
-    }
-    starts
-}
-
 // The wire of a pair that is in a half.
-fn member_of(halves: &[Half; 64], half: Half, i: usize) -> usize
-    requires { i < 32 }
+fn member_of(halves: &[Half], half: Half, i: usize) -> usize
+    requires { 2 * i < length halves.now }
     ensures { result ≡ member (sides halves.now) (side half) i }
 {
-    match (halves[2 * i], half) {
-        (Half::Even, Half::Even) | (Half::Odd, Half::Odd) => 2 * i,
-        _ => 2 * i + 1,
+    if halves[2 * i] == half {
+        2 * i
+    } else {
+        2 * i + 1
     }
 }
 
 // Writes what the entries are on a half into a lent table, which spares a copy.
-fn halve(pairs: usize, entries: &[u8; 64], halves: &[Half; 64], half: Half, table: &mut [u8; 64])
-    requires { pairs ≤ 32 }
-    ensures { (i : ℕ) → i < pairs → at table.new i ≡ half_of (at entries.now) (sides halves.now) (side half) i }
+fn halve(entries: &[u8], halves: &[Half], half: Half, table: &mut [u8])
+    requires entries { length entries.now ≡ 2 * length table.old }
+    requires halves { length halves.now ≡ 2 * length table.old }
+    ensures long { length entries.now ≡ 2 * length table.new }
+    ensures half { (i : ℕ) → i < length table.new → at table.new i ≡ half_of (at entries.now) (sides halves.now) (side half) i }
 {
-    for i in 0..pairs {
-        table[i] = entries[member_of(halves, half, i)] / 2;
+    for (i, place) in table.iter_mut().enumerate() {
+        *place = entries[member_of(halves, half, i)] / 2;
     }
 }
 
-// Sets a layer of pairs, from pair `first` on, from the place `start` on.
-fn set_layer(
-    settings: &mut [Setting],
-    start: usize,
-    halves: &[Half; 64],
-    first: usize,
-    count: usize,
-)
-    requires pairs { first + count ≤ 32 }
-    requires places { start + count ≤ length settings.old }
-    ensures { settings.new ≡ written settings.old start (layer (sides halves.now) first count) }
+// Sets a layer of pairs, from pair `first` on.
+fn set_layer(settings: &mut [Setting], halves: &[Half], first: usize)
+    requires { 2 * (first + length settings.old) ≤ length halves.now }
+    ensures { settings.new ≡ layer (sides halves.now) first (length settings.old) }
 {
-    for i in 0..count {
-        settings[start + i] = halves[2 * (first + i)].setting();
+    for (i, setting) in settings.iter_mut().enumerate() {
+        *setting = halves[2 * (first + i)].setting();
     }
 }
 
-// Routes on half the wires, twice, between the first and the last pairs; the settings stand from the place `start` on.
-fn route_over(
-    levels: usize,
-    entries: &[u8; 64],
-    inverse: &[u8; 64],
-    settings: &mut [Setting],
-    start: usize,
-)
-    requires few { levels ≤ 6 }
-    requires inverse { Inverse (2 ^ levels) (at entries.now) (at inverse.now) }
-    requires places { start + length (network levels) ≤ length settings.old }
-    ensures { RoutesAt levels start (at entries.now) settings.old settings.new }
+// Routes on half the wires, twice, between the first and the last pairs.
+fn route_over(levels: Levels, entries: &[u8], inverse: &[u8], settings: &mut [Setting])
+    requires entries { length entries.now ≡ 2 ^ levels.count }
+    requires inverse { length inverse.now ≡ 2 ^ levels.count }
+    requires inverses { Inverse (2 ^ levels.count) (at entries.now) (at inverse.now) }
+    requires places { length settings.old ≡ length (network levels.count) }
+    ensures { Sends levels.count settings.new (at entries.now) }
 {
-    if levels == 0 {
+    let Some(parts) = levels.parts() else {
         return;
-    }
-    let pairs = width(levels - 1);
-    let inner = size(levels - 1);
-    let ends = halves_by_end(pairs, entries, inverse);
-    let starts = halves_by_start(pairs, inverse, &ends);
-    set_layer(settings, start, &starts, 0, pairs);
+    };
+    let count = parts.pairs;
+    let pairs = Pairs {
+        count,
+        entries,
+        inverse,
+    };
+    let ends = pairs.halves_by_end();
+    let ends = &ends[..2 * count];
+    let starts = pairs.halves_by_start(ends);
+    let starts = &starts[..2 * count];
+    let (first, rest) = settings.split_at_mut(count);
+    let (even, rest) = rest.split_at_mut(parts.inner);
+    let (odd, last) = rest.split_at_mut(parts.inner);
     let mut there = [0; 64];
     let mut back = [0; 64];
-    halve(pairs, entries, &ends, Half::Even, &mut there);
-    halve(pairs, inverse, &starts, Half::Even, &mut back);
-    route_over(levels - 1, &there, &back, settings, start + pairs);
-    halve(pairs, entries, &ends, Half::Odd, &mut there);
-    halve(pairs, inverse, &starts, Half::Odd, &mut back);
-    route_over(levels - 1, &there, &back, settings, start + pairs + inner);
-    set_layer(settings, start + pairs + 2 * inner, &ends, 1, pairs - 1);
+    let there = &mut there[..count];
+    let back = &mut back[..count];
+    set_layer(first, starts, 0);
+    halve(entries, ends, Half::Even, there);
+    halve(inverse, starts, Half::Even, back);
+    route_over(parts.half, there, back, even);
+    halve(entries, ends, Half::Odd, there);
+    halve(inverse, starts, Half::Odd, back);
+    route_over(parts.half, there, back, odd);
+    set_layer(last, ends, 1);
 }

@@ -1,8 +1,8 @@
 -- The loops of the chain: finding a comparator, and setting the rows.
-use Rattle.std.proofs.Common.{◌≡◌, ℕ, suc, ◌+◌, ◌-◌, ◌<◌, ◌≤◌, List, [], ◌++◌, map, length, Some, None, sym, refl, ap, ◌∙◌, subst, arith}
+use Rattle.std.proofs.Common.{◌≡◌, ℕ, suc, ◌+◌, ◌-◌, ◌<◌, ◌≤◌, List, [], ◌++◌, map, length, take, Some, None, sym, refl, ap, ◌∙◌, subst, arith}
 use Rattle.std.specs.List.{range_with_len}
 use Rattle.std.specs.Option.{option_map}
-use Rattle.std.proofs.lemmas.List.{length-append, append_assoc, append-nil}
+use Rattle.std.proofs.lemmas.List.{length-append, append_assoc, append-nil, get_or-take}
 use Rattle.std.proofs.lemmas.List.FromFn.{length-map-range_with_len}
 use Rattle.plan.specs.declared.Setting.{Setting}
 use Rattle.plan.specs.Plans.{on, at, nth, source, Permutation, Tabled, Brings}
@@ -66,9 +66,6 @@ permutes_more j n p q h s e =
     let r : Permutes (j + 1) n (settled j p) = subst (λ (z : ℕ). Permutes (j + 1) z (settled j p)) b (permutes_rest j m p s') in
     permutes_like (j + 1) n (settled j p) q e r
 
-pub goes_none : (n : ℕ) (p : ℕ → ℕ) → Goes 0 n p [] p
-goes_none n p ss k x h = let e : n - 0 ≡ n = omega arith in sym (ap (λ m. source (chain_from 0 m) ss x) e) ∙ k x (omega arith) h
-
 pub goes_more : (j n : ℕ) (p q o : ℕ → ℕ) (out ext : List Setting) → j < n → Permutes j n p → ((x : ℕ) → x < n → q x ≡ settled j p x) →
     ext ≡ out ++ map (row_setting (p j)) (range_with_len (j + 1) (n - 1 - j)) → Goes j n p out o → Goes (j + 1) n q ext o
 goes_more j n p q o out ext h s e f g ss k x l =
@@ -88,9 +85,12 @@ pub goes_all : (j n : ℕ) (p o : ℕ → ℕ) (out : List Setting) → n ≤ j 
 goes_all j n p o out h g x z l = ap (λ ss. source (chain n) ss x) (sym (append-nil out)) ∙ g [] (λ y hy ly. absurd (omega arith)) x (omega arith)
 
 -- the whole route
-pub routed : (n w : ℕ) (p es is : List ℕ) (ss : List Setting) → w ≡ n → Fits n → Tabled w p es is → length ss ≡ length (chain n) → BringsFrom 0 w ss (at es) →
-    Permutation n p × Brings n (chain n) ss p
-routed n w p es is ss e f t l b =
-    let v : Permutation n p = subst (λ (z : ℕ). Permutation z p) e t.permutation in
-    let b' : BringsFrom 0 n ss (at es) = subst (λ (z : ℕ). BringsFrom 0 z ss (at es)) e b in
-    (v, brings_from n (chain n) ss p (chain_lawful n f).within l v.long (λ x h. b' x (omega arith) (omega arith) ∙ t.same x (omega arith)))
+pub routed : (n w : ℕ) (p es is t : List ℕ) (ss : List Setting) → w ≡ n → Fits n → Tabled w p es is → t ≡ take w es → length t ≡ w → length ss ≡ length (chain n) →
+    BringsFrom 0 (length t) ss (at t) → Permutation n p × Brings n (chain n) ss p
+routed n w p es is t ss e f v g m l b =
+    let v' : Permutation n p = subst (λ (z : ℕ). Permutation z p) e v.permutation in
+    let b' : BringsFrom 0 n ss (at t) = subst (λ (z : ℕ). BringsFrom 0 z ss (at t)) (m ∙ e) b in (
+      v',
+      brings_from n (chain n) ss p (chain_lawful n f).within l v'.long
+          (λ x h. b' x (omega arith) (omega arith) ∙ ap (λ z. at z x) g ∙ get_or-take w es x 0 (omega arith) ∙ v.same x (omega arith)),
+    )

@@ -40,53 +40,43 @@ impl Plan for Chain {
         self.width
     }
 
+    // How many pairs there are among the wires.
     fn count(&self) -> usize {
-        pairs_among(self.wires())
+        let wires = self.wires();
+        wires * (wires - 1) / 2
     }
 
+    // It is found from the row in which it stands.
     fn comparator(&self, k: usize) -> Option<Comparator> {
-        listed(self.wires(), k)
+        let mut left = k;
+        for first in 0..self.width {
+            let row = self.width - 1 - first;
+            if left < row {
+                return Some(between(first, first + 1 + left));
+            }
+            left -= row;
+        }
+        None
     }
 
     fn route(&self, permutation: &[usize], settings: &mut [Setting]) -> Result<(), Refusal> {
         if settings.len() != self.count() {
             return Err(Reason::UnfitLength.at(0));
         }
-        let wires = self.wires();
-        let mut wanted = Shuffle::read(permutation, wires)?.entries;
-        set_rows(&mut wanted, wires, settings);
+        let shuffle = Shuffle::read(permutation, self.wires())?;
+        let entries = shuffle.entries();
+        let mut table = [0; 64];
+        let wanted = &mut table[..entries.len()];
+        wanted.copy_from_slice(entries);
+        set_rows(wanted, settings);
         Ok(())
     }
-}
-
-// How many pairs there are among so many wires.
-fn pairs_among(wires: usize) -> usize
-    requires { Fits wires }
-    ensures { result ≡ (wires * (wires - 1)) / 2 }
-{
-    wires * (wires - 1) / 2
 }
 
 fn between(first: usize, second: usize) -> Comparator
     ensures { result ≡ on first second }
 {
     Comparator { first, second }
-}
-
-// The k-th comparator, from the row in which it stands.
-fn listed(wires: usize, k: usize) -> Option<Comparator>
-    requires { wires ≤ 64 }
-    ensures { result ≡ nth (chain wires) k }
-{
-    let mut left = k;
-    for first in 0..wires {
-        let row = wires - 1 - first;
-        if left < row {
-            return Some(between(first, first + 1 + left));
-        }
-        left -= row;
-    }
-    None
 }
 
 // The setting of the comparator with wire k, where the item wanted stands on wire `from`.
@@ -105,8 +95,8 @@ fn set_row(row: &mut [Setting], first: usize, from: usize)
     requires { first + length row.old < 64 }
     ensures { row.new ≡ map (row_setting from) (range_with_len (first + 1) (length row.old)) }
 {
-    for i in 0..row.len() {
-        row[i] = setting_with(first + 1 + i, from);
+    for (i, setting) in row.iter_mut().enumerate() {
+        *setting = setting_with(first + 1 + i, from);
     }
 }
 
@@ -114,25 +104,25 @@ fn set_row(row: &mut [Setting], first: usize, from: usize)
 fn rename(entries: &mut [u8], one: u8, other: u8)
     ensures { (x : ℕ) → x < length entries.old → at entries.new x ≡ crossed (on one other) (at entries.old x) }
 {
-    for x in 0..entries.len() {
-        let y = entries[x];
-        entries[x] = if y == one {
+    for entry in entries.iter_mut() {
+        *entry = if *entry == one {
             other
-        } else if y == other {
+        } else if *entry == other {
             one
         } else {
-            y
+            *entry
         };
     }
 }
 
 // Row by row: the item wanted on a wire is brought there, and the wanted entries then name the wires as they are.
-fn set_rows(wanted: &mut [u8; 64], wires: usize, settings: &mut [Setting])
-    requires narrow { wires ≤ 64 }
-    requires permutes { Permutes 0 wires (at wanted.old) }
-    requires places { length settings.old ≡ length (chain wires) }
-    ensures { BringsFrom 0 wires settings.new (at wanted.old) }
+fn set_rows(wanted: &mut [u8], settings: &mut [Setting])
+    requires narrow { length wanted.old ≤ 64 }
+    requires permutes { Permutes 0 (length wanted.old) (at wanted.old) }
+    requires places { length settings.old ≡ length (chain (length wanted.old)) }
+    ensures { BringsFrom 0 (length wanted.old) settings.new (at wanted.old) }
 {
+    let wires = wanted.len();
     let mut start = 0;
     for j in 0..wires {
         let row = wires - 1 - j;

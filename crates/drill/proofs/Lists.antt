@@ -1,5 +1,5 @@
 -- What lists of witnesses have where none is refused: each is fit, no two have one z.
-use Rattle.std.proofs.Common.{◌≡◌, ℕ, ◌+◌, Bool, true, false, not, eqb, List, [], ◌∷◌, ◌++◌, map, length, Some, None, Option, sym, refl, ◌∙◌, arith, eqb-true}
+use Rattle.std.proofs.Common.{◌≡◌, ℕ, ◌+◌, Bool, true, false, eqb, List, [], ◌∷◌, ◌++◌, map, length, Some, None, Option, sym, refl, ◌∙◌, eqb-true}
 use borrow.Author.Tests.{eqb-false}
 use Rattle.equivalence.specs.Judgement.{unless}
 use Rattle.group.specs.Exponents.{Exponents}
@@ -9,9 +9,10 @@ use Rattle.plan.specs.declared.Setting.TheVariants.{Straight, Swapped}
 use Rattle.posting.specs.declared.comparison.Comparison.{Comparison}
 use Rattle.refusal.specs.Table.{refused_at}
 use Rattle.refusal.specs.declared.Reason.{Reason}
-use Rattle.refusal.specs.declared.Reason.TheVariants.{EqualDraws, UnfitWitnessCount, UnfitWitnessNumber, EqualChallenges, UnacceptedAnswer}
+use Rattle.refusal.specs.declared.Reason.TheVariants.{EqualDraws, UnfitWitnessCount}
 use Rattle.refusal.specs.declared.Refusal.{Refusal}
-use Rattle.witness.specs.Refusals.{both, or_else, at_place, stands, repeated, judged, judgement, draws, judge_equivalence, judge_disjunctive, equivalence_refusal, disjunctive_refusal, first_refusal}
+use Rattle.witness.specs.Refusals.{both, or_else, at_place, stands, repeated, judged, draws, judge_equivalence, judge_disjunctive, equivalence_refusal, disjunctive_refusal, first_refusal}
+use Rattle.witness.proofs.Judging.{neither}
 use Rattle.witness.specs.Samples.{same_setting, on_branch}
 use Rattle.witness.specs.Witnesses.{EquivalenceWitness, DisjunctiveWitness}
 use Rattle.witness.specs.declared.posted.Witness.{Witness}
@@ -34,31 +35,9 @@ pub all_mapped : {A B : Type 0} {Q : A → Type 0} (R : B → Type 0) (f : A →
 all_mapped R f g [] h = tt
 all_mapped R f g (x ∷ xs) h = (g x h.0, all_mapped R f g xs h.1)
 
-some_none : {A : Type 0} {x : A} → Some x ≡ None → ⊥
-some_none e = let z : ◌≡◌ {A = ℕ} 0 1 = cc in omega arith
-
-true_false : true ≡ false → ⊥
-true_false e = let z : ◌≡◌ {A = ℕ} 0 1 = cc in omega arith
-
 pub both_parts : (a b : Bool) → both a b ≡ true → (a ≡ true) × (b ≡ true)
 both_parts true b e = (refl, e)
-both_parts false b e = absurd (true_false (sym e))
-
-pub neither : (a b : Option Refusal) → or_else a b ≡ None → (a ≡ None) × (b ≡ None)
-neither None b e = (refl, e)
-neither (Some f) b e = absurd (some_none e)
-
--- a judgement that refuses nothing
-pub judged_well : (fits : Bool) (a b : ℕ) (accepted : Bool) → judgement fits a b accepted ≡ None → (fits ≡ true) × (a ≡ b → ⊥) × (accepted ≡ true)
-unfolding judgement
-judged_well fits a b accepted e = go fits (eqb a b) accepted refl e
-  where
-    go : (f t s : Bool) → eqb a b ≡ t → unless f UnfitWitnessNumber (unless (not t) EqualChallenges (unless s UnacceptedAnswer None)) ≡ None
-        → (f ≡ true) × (a ≡ b → ⊥) × (s ≡ true)
-    go true true s p e = absurd (some_none e)
-    go true false true p e = (refl, eqb-false a b p, refl)
-    go true false false p e = absurd (some_none e)
-    go false t s p e = absurd (some_none e)
+both_parts false b e = cc
 
 pub judged_all : {W : Type 0} (judge : W → Option Reason) (place : ℕ) (ws : List W) → judged judge place ws ≡ None → All (λ w. judge w ≡ None) ws
 judged_all judge place [] e = tt
@@ -67,21 +46,21 @@ judged_all {W} judge place (w ∷ ws) e = go (judge w) refl e (judged_all judge 
     go : (o : Option Reason) → judge w ≡ o → or_else (at_place place o) (judged judge (place + 1) ws) ≡ None
         → (judged judge (place + 1) ws ≡ None → All (λ w. judge w ≡ None) ws) → (judge w ≡ None) × All (λ w. judge w ≡ None) ws
     go None p e rest = (p, rest e)
-    go (Some why) p e rest = absurd (some_none e)
+    go (Some why) p e rest = cc
 
 stands_append : (y : ℕ) (l : List ℕ) (z : ℕ) → stands y (l ++ (z ∷ [])) ≡ false → (stands y l ≡ false) × (y ≡ z → ⊥)
 unfolding stands
 stands_append y [] z e = go (eqb y z) refl e
   where
     go : (b : Bool) → eqb y z ≡ b → (elim b [ true ↦ true | false ↦ false ]) ≡ false → (false ≡ false) × (y ≡ z → ⊥)
-    go true p e = absurd (true_false e)
+    go true p e = cc
     go false p e = (refl, eqb-false y z p)
 stands_append y (m ∷ l) z e = go (eqb y m) e (stands_append y l z)
   where
     go : (b : Bool) → (elim b [ true ↦ true | false ↦ stands y (l ++ (z ∷ [])) ]) ≡ false
         → (stands y (l ++ (z ∷ [])) ≡ false → (stands y l ≡ false) × (y ≡ z → ⊥))
         → ((elim b [ true ↦ true | false ↦ stands y l ]) ≡ false) × (y ≡ z → ⊥)
-    go true e rest = absurd (true_false e)
+    go true e rest = cc
     go false e rest = rest e
 
 -- nothing repeated: no two are equal
@@ -93,7 +72,7 @@ all_apart place earlier (z ∷ zs) e = go (stands z earlier) refl e (all_apart (
     go : (b : Bool) → stands z earlier ≡ b → ◌≡◌ {A = Option Refusal} (elim b [ true ↦ Some (refused_at EqualDraws place) | false ↦ repeated (place + 1) (earlier ++ (z ∷ [])) zs ]) None
         → (repeated (place + 1) (earlier ++ (z ∷ [])) zs ≡ None → All (λ y. stands y (earlier ++ (z ∷ [])) ≡ false) zs × Pairwise (λ z y. z ≡ y → ⊥) zs)
         → All (λ z. stands z earlier ≡ false) (z ∷ zs) × Pairwise (λ z y. z ≡ y → ⊥) (z ∷ zs)
-    go true p e rest = absurd (some_none e)
+    go true p e rest = cc
     go false p e rest =
         let r = rest e in
         ((p, all_since (λ y h. (stands_append y earlier z h).0) zs r.0), (all_since (λ y h e. (stands_append y earlier z h).1 (sym e)) zs r.0, r.1))
@@ -144,7 +123,7 @@ module _ {P : Type 0} (G : Operations P) (E : Exponents) (k : Comparison P) (W :
 
   counted_well : (t : Bool) → at_place 0 (unless t UnfitWitnessCount None) ≡ None → t ≡ true
   counted_well true e = refl
-  counted_well false e = absurd (some_none e)
+  counted_well false e = cc
 
   pub unrefused : first_refusal G E k W V ≡ None → Unrefused
   unfolding first_refusal equivalence_refusal disjunctive_refusal

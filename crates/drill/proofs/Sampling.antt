@@ -1,7 +1,8 @@
 -- A witness that is not refused shows its exponent: at z, A^z·B = (y^z·g)^γ.
-use Rattle.std.proofs.Common.{◌≡◌, ℕ, suc, ◌%◌, ◌^◌, ◌<◌, ◌≤◌, Bool, true, false, eqb, ltb, leb, List, [], ◌∷◌, map, length, None, sym, refl, ap, ◌∙◌, ap₂, mod-eq_of_lt, arith, ltb-true, eqb-true, leb-false, leb-true}
+use Rattle.std.proofs.Common.{◌≡◌, ℕ, ◌%◌, ◌^◌, ◌<◌, ◌≤◌, Bool, true, false, eqb, ltb, leb, List, [], ◌∷◌, map, length, None, sym, refl, ap, ◌∙◌, ap₂, mod-eq_of_lt, arith, ltb-true, eqb-true, leb-false, leb-true}
 use borrow.Author.Tests.{eqb-false}
 use lib.Bits.{bit_xor}
+use Rattle.std.proofs.lemmas.List.{length-map}
 use Rattle.elgamal.specs.Ciphertexts.{multiplied}
 use Rattle.elgamal.specs.declared.Ciphertext.{Ciphertext}
 use Rattle.equivalence.proofs.SamePoint.{point_told}
@@ -12,6 +13,7 @@ use Rattle.plan.specs.declared.Setting.{Setting}
 use Rattle.plan.specs.declared.Setting.TheVariants.{Straight, Swapped}
 use Rattle.posting.specs.declared.comparison.Comparison.{Comparison}
 use Rattle.witness.proofs.Gathering.{counted}
+use Rattle.witness.proofs.Judging.{judged_well}
 use Rattle.witness.specs.Refusals.{both, challenge_fits, answer_fits, transcript_fits, transcript_accepted, splits, judge_equivalence, judge_disjunctive}
 use Rattle.witness.specs.Samples.{gamma, equivalence_sample, disjunctive_sample, drawn, on_branch, majority, first_three, chosen, examination}
 use Rattle.witness.specs.Witnesses.{EquivalenceWitness, DisjunctiveWitness}
@@ -21,7 +23,7 @@ use Rattle.witness.specs.declared.samples.Drawn.{Drawn}
 use Rattle.witness.specs.declared.samples.Sample.{Sample}
 use Rattle.witness.specs.declared.samples.Samples.{Samples}
 use Rattle.drill.proofs.Lines.{Shows, Fit}
-use Rattle.drill.proofs.Lists.{All, Pairwise, all_mapped, both_parts, judged_well, draws_apart, branch_all, branch_pairwise, Unrefused}
+use Rattle.drill.proofs.Lists.{All, Pairwise, all_mapped, both_parts, draws_apart, branch_all, branch_pairwise, Unrefused}
 use Rattle.drill.proofs.Powers.{by_remainder, extracted, remainder_below}
 
 -- the output that a branch pairs with the first input
@@ -133,14 +135,10 @@ module _ {P : Type 0} {G : Operations P} (laws : GroupLaws G) {E : Exponents} (e
       go true e = leb-true 3 _ e
       go false e = let few = leb-false 3 (length (on_branch Straight ds)) e in let all = counted ds in omega arith
 
-  length_mapped : {A B : Type 0} (f : A → B) (xs : List A) → length (map f xs) ≡ length xs
-  length_mapped f [] = refl
-  length_mapped f (x ∷ xs) = ap suc (length_mapped f xs)
-
   module _ (k : Comparison P) (W : List (EquivalenceWitness P)) (V : List (DisjunctiveWitness P)) (u : Unrefused G E k W V) where
     pub product_samples : Three k.key (multiplied G k.inputs.first k.inputs.second) (multiplied G k.outputs.first k.outputs.second) (examination E W V).product
     product_samples =
-        let n = length_mapped (equivalence_sample E) W in let m = u.three in
+        let n = length-map W (equivalence_sample E) in let m = u.three in
         three_sound k.key _ _ (map (equivalence_sample E) W) (omega arith)
         (all_mapped (Sound k.key _ _) (equivalence_sample E) (equivalence_sound k) W u.equivalence_judged)
         (draws_apart (equivalence_sample E) (λ s. s.z) (λ w. refl) W u.equivalence_draws)
@@ -149,7 +147,7 @@ module _ {P : Type 0} {G : Operations P} (laws : GroupLaws G) {E : Exponents} (e
     unfolding chosen
     branch_samples =
         let ds = map (drawn E) V in
-        let n = length_mapped (drawn E) V in let m = u.five in
+        let n = length-map V (drawn E) in let m = u.five in
         three_sound k.key _ _ (on_branch (majority ds) ds) (enough ds (n ∙ m))
         (branch_all (λ s. Sound k.key k.inputs.first (output_of k s)) (majority ds) ds (all_mapped (λ d. Sound k.key k.inputs.first (output_of k d.setting) d.sample) (drawn E) (disjunctive_sound k) V u.disjunctive_judged))
         (branch_pairwise (λ s t. s.z ≡ t.z → ⊥) (majority ds) ds (draws_apart (drawn E) (λ d. d.sample.z) (λ w. refl) V u.disjunctive_draws))

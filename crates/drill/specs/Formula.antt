@@ -3,6 +3,7 @@ use Rattle.std.specs.Prelude.{ℕ, true, false, ◌==◌}
 use Rattle.group.specs.Exponents.{Exponents, remainder, sum, difference, product}
 use Rattle.witness.specs.Refusals.{both}
 use Rattle.witness.specs.declared.samples.Examination.{Examination}
+use Rattle.witness.specs.declared.samples.Sample.{Sample}
 use Rattle.witness.specs.declared.samples.Samples.{Samples}
 use Rattle.drill.specs.Findings.{answer}
 use Rattle.drill.specs.declared.finding.Conclusion.{Conclusion}
@@ -21,6 +22,10 @@ module _ (E : Exponents) where
 
   abbrev pub bottom : Samples ℕ → ℕ
   bottom s = second s (product E s.first.z s.first.gamma) (product E s.second.z s.second.gamma) (product E s.third.z s.third.gamma)
+
+  -- a sample with its exponent times its z
+  abbrev pub weighted : Sample ℕ → Sample ℕ
+  weighted s = record { z = s.z; gamma = product E s.z s.gamma }
 
   unfoldable pub formula : Samples ℕ → ℕ
   formula s = product E (difference E (remainder E 0) (top s)) (E.inverse (bottom s))

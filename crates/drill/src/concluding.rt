@@ -1,30 +1,43 @@
 // What three samples show.
 ghost use Rattle.std.specs.Prelude.{◌≡◌};
-ghost use Rattle.witness.specs.Samples.{samples_meaning, examination_meaning};
-ghost use Rattle.drill.specs.Formula.{second, formula, conclusion, computed};
+ghost use Rattle.witness.specs.Samples.{sample_meaning, samples_meaning, examination_meaning};
+ghost use Rattle.drill.specs.Formula.{top, weighted, formula, conclusion, computed};
 ghost use Rattle.drill.specs.Findings.{conclusion_meaning, finding_meaning, answer};
 
 use crate::finding::{Conclusion, Finding, Reencryption};
 use group::Exponent;
 use plan::Setting;
-use witness::samples::{Branch, Examination, Samples};
+use witness::samples::{Branch, Examination, Sample, Samples};
 
-// The second difference of three numbers at the samples' z, up to a factor.
-fn second_difference<X: Exponent>(samples: Samples<X>, f1: X, f2: X, f3: X) -> X
-    ensures { X.Exponent.value result ≡ second X.Exponent.exponents (samples_meaning X.Exponent.value samples) (X.Exponent.value f1) (X.Exponent.value f2) (X.Exponent.value f3) }
+// The second difference of the exponents of three samples, up to a factor.
+#[tactic(auto, unfolding(crate::specs::Formula::second))]
+fn second_difference<X: Exponent>(samples: Samples<X>) -> X
+    ensures { X.Exponent.value result ≡ top X.Exponent.exponents (samples_meaning X.Exponent.value samples) }
 {
     let Samples {
         first,
         second,
         third,
     } = samples;
-    let a = second.z.subtract(third.z).multiply(f1);
-    let b = third.z.subtract(first.z).multiply(f2);
-    let c = first.z.subtract(second.z).multiply(f3);
+    let a = second.z.subtract(third.z).multiply(first.gamma);
+    let b = third.z.subtract(first.z).multiply(second.gamma);
+    let c = first.z.subtract(second.z).multiply(third.gamma);
     a.add(b).add(c)
 }
 
+// The sample with its exponent times its z.
+fn weigh<X: Exponent>(sample: Sample<X>) -> Sample<X>
+    ensures { sample_meaning X.Exponent.value result ≡ weighted X.Exponent.exponents (sample_meaning X.Exponent.value sample) }
+{
+    let Sample { z, gamma } = sample;
+    Sample {
+        z,
+        gamma: z.multiply(gamma),
+    }
+}
+
 // The key that samples whose exponents differ show.
+#[tactic(auto, unfolding(crate::specs::Formula::second, crate::specs::Formula::formula))]
 fn key_of<X: Exponent>(samples: Samples<X>) -> X
     ensures { X.Exponent.value result ≡ formula X.Exponent.exponents (samples_meaning X.Exponent.value samples) }
 {
@@ -33,11 +46,12 @@ fn key_of<X: Exponent>(samples: Samples<X>) -> X
         second,
         third,
     } = samples;
-    let top = second_difference(samples, first.gamma, second.gamma, third.gamma);
-    let f1 = first.z.multiply(first.gamma);
-    let f2 = second.z.multiply(second.gamma);
-    let f3 = third.z.multiply(third.gamma);
-    let bottom = second_difference(samples, f1, f2, f3);
+    let top = second_difference(samples);
+    let bottom = second_difference(Samples {
+        first: weigh(first),
+        second: weigh(second),
+        third: weigh(third),
+    });
     X::from_word(0).subtract(top).multiply(bottom.invert())
 }
 
@@ -50,7 +64,7 @@ pub fn conclude<X: Exponent>(samples: Samples<X>) -> Conclusion<X>
         second,
         third,
     } = samples;
-    if first.gamma.equals(second.gamma) && second.gamma.equals(third.gamma) {
+    if first.gamma == second.gamma && second.gamma == third.gamma {
         return Conclusion::Common(first.gamma);
     }
     Conclusion::Key(key_of(samples))

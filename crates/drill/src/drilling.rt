@@ -8,24 +8,18 @@ ghost use Rattle.drill.specs.Meaning.{Shown};
 
 use crate::concluding::find;
 use crate::finding::Finding;
-use group::{Exponent, Group};
+use group::Group;
 use posting::comparison::Comparison;
 use refusal::Refusal;
 use witness::examining::examine;
-use witness::posted::{Disjunction, Transcript, Witness};
+use witness::posted::{PostedDisjunctiveWitness, PostedEquivalenceWitness};
 
 // Drills a comparator: three witnesses of its equivalence proof, five of its disjunctive one.
 pub fn drill<G: Group>(
     g: &G,
     comparison: Comparison<G::Element>,
-    equivalence: &[Witness<
-        <G::Exponent as Exponent>::Posted,
-        Transcript<G::Element, <G::Exponent as Exponent>::Posted>,
-    >],
-    disjunction: &[Witness<
-        <G::Exponent as Exponent>::Posted,
-        Disjunction<G::Element, <G::Exponent as Exponent>::Posted>,
-    >],
+    equivalence: &[PostedEquivalenceWitness<G>],
+    disjunction: &[PostedDisjunctiveWitness<G>],
 ) -> Result<Finding<G::Exponent>, Refusal>
     ensures drilled { Drilled G.Group.operations G.Exponent.Exponent.exponents (comparison_meaning G.Group.point comparison) (map (equivalence_meaning G.Group.point G.Exponent.Exponent.number) equivalence.now) (map (disjunctive_meaning G.Group.point G.Exponent.Exponent.number) disjunction.now) (drilled_meaning G.Exponent.Exponent.value result) }
     ensures shown { Shown G.Group.operations (comparison_meaning G.Group.point comparison) (drilled_meaning G.Exponent.Exponent.value result) }

@@ -1,4 +1,8 @@
 // What a drill finds.
+ghost use Rattle.std.specs.Prelude.{◌≡◌};
+ghost use Rattle.drill.specs.Findings.{finding_meaning};
+
+use group::Exponent;
 use plan::Setting;
 
 // What three samples show: one exponent common to all, or a private key.
@@ -16,8 +20,25 @@ pub struct Reencryption<X> {
     pub r2: X,
 }
 
+// What the drill finds. It is no Result: either finding answers the drill, which may also refuse.
 #[derive(Clone, Copy)]
 pub enum Finding<X> {
     Key(X),
     Outputs(Reencryption<X>),
+}
+
+impl<X: Exponent> Finding<X> {
+    // The same, its exponents as they are posted.
+    pub fn post(self) -> Finding<X::Posted>
+        ensures { finding_meaning X.Exponent.number result ≡ finding_meaning X.Exponent.value self }
+    {
+        match self {
+            Finding::Key(x) => Finding::Key(x.post()),
+            Finding::Outputs(Reencryption { setting, r1, r2 }) => Finding::Outputs(Reencryption {
+                setting,
+                r1: r1.post(),
+                r2: r2.post(),
+            }),
+        }
+    }
 }

@@ -3,7 +3,7 @@ use Rattle.std.proofs.Common.{◌≡◌, ℕ, ◌+◌, ◌<◌, Bool, true, fals
 use Rattle.drill.proofs.Lists.{All}
 use Rattle.drill.proofs.Powers.{remainder_below}
 use Rattle.drill.proofs.Sampling.{output_of}
-use Rattle.drill.specs.Findings.{ordered, answer}
+use Rattle.drill.specs.Findings.{finding_meaning, ordered, answer}
 use Rattle.drill.specs.Rule.{Concluded, Found}
 use Rattle.drill.specs.declared.finding.Conclusion.{Conclusion}
 use Rattle.drill.specs.declared.finding.Conclusion.TheVariants.{Common, Key as KeyOf}
@@ -19,6 +19,8 @@ use Rattle.plan.specs.declared.Setting.TheVariants.{Straight, Swapped}
 use Rattle.posting.specs.declared.comparison.Comparison.{Comparison}
 use Rattle.refusal.specs.declared.Reason.{Reason}
 use Rattle.refusal.specs.declared.Refusal.{Refusal}
+use Rattle.refusal.specs.declared.failure.Failure.{Failure}
+use Rattle.refusal.specs.declared.failure.Failure.TheVariants.{Refused, NoMemory}
 use Rattle.witness.specs.Refusals.{both, challenge_fits, transcript_fits, transcript_accepted, splits, or_else, repeated, judged, judgement, judge_equivalence, judge_disjunctive, equivalence_refusal, disjunctive_refusal, first_refusal}
 use Rattle.witness.specs.Samples.{equivalence_sample, disjunctive_sample, drawn, chosen, examination}
 use Rattle.witness.specs.Witnesses.{EquivalenceWitness, DisjunctiveWitness}
@@ -31,11 +33,11 @@ use Rattle.drillserver.proofs.Challenges.{Fair, bits_below, next_fair, parts_fai
 use Rattle.drillserver.proofs.Transcripts.{quotient_power, simulated_transcript_accepted, product_power, product_swapped, left_of_sum, left_of_other, answering_own, made_gamma, proved_fits, simulated_fits, proved_accepted}
 use Rattle.drillserver.specs.Answering.{next_challenges, parts_beside, proved_transcript, simulated_transcript, made_disjunction, made_equivalence_witness, made_disjunctive_witness, made_equivalence_witnesses, made_disjunctive_witnesses}
 use Rattle.drillserver.specs.Comparing.{made_comparison}
-use Rattle.drillserver.specs.Drilling.{DrilledAsMade}
+use Rattle.drillserver.specs.Drilling.{IfDrilled, DrilledAsMade}
 use Rattle.drillserver.specs.Honest.{honest, unless_refused, equal_z, own_finding, AnsweredHonestly}
 use Rattle.drillserver.specs.Knowledge.{word, product_answering, branch_answering}
-use Rattle.drillserver.specs.declared.making.Kind.{Kind}
-use Rattle.drillserver.specs.declared.making.Task.{Task}
+use Rattle.drillserver.specs.declared.task.Kind.{Kind}
+use Rattle.drillserver.specs.declared.task.Task.{Task}
 
 nothing_wrong : (fits : Bool) (a b : ℕ) (accepted : Bool) → fits ≡ true → (a ≡ b → ⊥) → accepted ≡ true → judgement fits a b accepted ≡ None
 unfolding judgement
@@ -256,3 +258,9 @@ module _ {P : Type 0} {G : Operations P} (laws : GroupLaws G) {E : Exponents} (e
       let of : Kind → Task = λ kind. record { kind = kind; private = t.private; r1 = t.r1; r2 = t.r2; seed = t.seed } in
       subst (λ kind. DrilledAsMade G E (of kind) r → r ≡ unless_refused (equal_z E (of kind)) (own_finding E s (of kind))) (sym is)
       (drilled_honest t.private t.r1 t.r2 t.seed s r) h
+
+  -- the same of what is answered, where memory suffices
+  pub honest_where_drilled : {X : Type 0} (value : X → ℕ) (t : Task) (r : Result (Finding X) Failure) → IfDrilled value r (DrilledAsMade G E t) → IfDrilled value r (AnsweredHonestly E t)
+  honest_where_drilled value t (Ok found) h = honestly_answered t (Ok (finding_meaning value found)) h
+  honest_where_drilled value t (Err (Refused why)) h = honestly_answered t (Err why) h
+  honest_where_drilled value t (Err (NoMemory error)) h = tt

@@ -13,11 +13,11 @@ use Rattle.witness.specs.declared.posted.Challenges.{Challenges}
 use Rattle.witness.specs.declared.posted.Disjunction.{Disjunction}
 use Rattle.witness.specs.declared.posted.Transcript.{Transcript}
 use Rattle.drillserver.specs.Knowledge.{word, product_answering, branch_answering}
-use Rattle.drillserver.specs.declared.making.Fault.{Fault}
-use Rattle.drillserver.specs.declared.making.Fault.TheVariants.{Nothing, EqualDraws, EqualChallenges, WrongAnswer, UnfitNumber}
-use Rattle.drillserver.specs.declared.making.Outputs.{Outputs}
-use Rattle.drillserver.specs.declared.making.Outputs.TheVariants.{Straight as MadeStraight, Swapped as MadeSwapped, Forged}
-use Rattle.drillserver.specs.declared.making.Task.{Task}
+use Rattle.drillserver.specs.declared.task.Fault.{Fault}
+use Rattle.drillserver.specs.declared.task.Fault.TheVariants.{Nothing, EqualDraws, EqualChallenges, WrongAnswer, UnfitNumber}
+use Rattle.drillserver.specs.declared.task.Outputs.{Outputs}
+use Rattle.drillserver.specs.declared.task.Outputs.TheVariants.{Straight as MadeStraight, Swapped as MadeSwapped, Forged}
+use Rattle.drillserver.specs.declared.task.Task.{Task}
 
 -- what is made for 0, 1 and so on, below n
 abbrev pub each_below : {W : Type 0} → (ℕ → W) → ℕ → List W

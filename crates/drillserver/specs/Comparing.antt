@@ -7,9 +7,9 @@ use Rattle.group.specs.Operations.{Operations, power}
 use Rattle.posting.specs.declared.comparison.Comparison.{Comparison}
 use Rattle.posting.specs.declared.comparison.Pair.{Pair}
 use Rattle.drillserver.specs.Knowledge.{word, secrets_of}
-use Rattle.drillserver.specs.declared.making.Outputs.{Outputs}
-use Rattle.drillserver.specs.declared.making.Outputs.TheVariants.{Straight, Swapped, Forged}
-use Rattle.drillserver.specs.declared.making.Task.{Task}
+use Rattle.drillserver.specs.declared.task.Outputs.{Outputs}
+use Rattle.drillserver.specs.declared.task.Outputs.TheVariants.{Straight, Swapped, Forged}
+use Rattle.drillserver.specs.declared.task.Task.{Task}
 
 module _ {Point : Type 0} (G : Operations Point) where
   -- a ciphertext whose parts are multiplied by powers of the generator

@@ -9,11 +9,11 @@ use Rattle.refusal.specs.declared.Refusal.{Refusal}
 use Rattle.witness.specs.Refusals.{or_else, repeated}
 use Rattle.drillserver.specs.Answering.{each_below}
 use Rattle.drillserver.specs.Knowledge.{word}
-use Rattle.drillserver.specs.declared.making.Fault.TheVariants.{Nothing}
-use Rattle.drillserver.specs.declared.making.Kind.{Kind}
-use Rattle.drillserver.specs.declared.making.Outputs.{Outputs as MadeOutputs}
-use Rattle.drillserver.specs.declared.making.Outputs.TheVariants.{Straight as MadeStraight, Swapped as MadeSwapped}
-use Rattle.drillserver.specs.declared.making.Task.{Task}
+use Rattle.drillserver.specs.declared.task.Fault.TheVariants.{Nothing}
+use Rattle.drillserver.specs.declared.task.Kind.{Kind}
+use Rattle.drillserver.specs.declared.task.Outputs.{Outputs as MadeOutputs}
+use Rattle.drillserver.specs.declared.task.Outputs.TheVariants.{Straight as MadeStraight, Swapped as MadeSwapped}
+use Rattle.drillserver.specs.declared.task.Task.{Task}
 
 -- the inputs re-encrypted in this order
 abbrev pub in_order : Setting → MadeOutputs

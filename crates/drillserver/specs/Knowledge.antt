@@ -1,13 +1,13 @@
 -- What the maker of a task knows, and the exponents by which it answers.
 use Rattle.std.specs.Prelude.{ℕ, ◌+◌, ◌%◌, ◌^◌, true, false, ◌==◌}
 use Rattle.group.specs.Exponents.{Exponents, remainder, sum, product}
-use Rattle.drillserver.specs.declared.making.Fault.{Fault}
-use Rattle.drillserver.specs.declared.making.Fault.TheVariants.{Nothing, EqualDraws, EqualChallenges, WrongAnswer, UnfitNumber}
-use Rattle.drillserver.specs.declared.making.Known.{Known}
-use Rattle.drillserver.specs.declared.making.Outputs.{Outputs}
-use Rattle.drillserver.specs.declared.making.Outputs.TheVariants.{Straight, Swapped, Forged}
-use Rattle.drillserver.specs.declared.making.Secrets.{Secrets}
-use Rattle.drillserver.specs.declared.making.Task.{Task}
+use Rattle.drillserver.specs.declared.task.Fault.{Fault}
+use Rattle.drillserver.specs.declared.task.Fault.TheVariants.{Nothing, EqualDraws, EqualChallenges, WrongAnswer, UnfitNumber}
+use Rattle.drillserver.specs.declared.knowledge.Known.{Known}
+use Rattle.drillserver.specs.declared.task.Outputs.{Outputs}
+use Rattle.drillserver.specs.declared.task.Outputs.TheVariants.{Straight, Swapped, Forged}
+use Rattle.drillserver.specs.declared.knowledge.Secrets.{Secrets}
+use Rattle.drillserver.specs.declared.task.Task.{Task}
 
 -- the 64-bit word that comes j after the seed
 abbrev pub word : (seed j : ℕ) → ℕ

@@ -1,106 +1,67 @@
 // Drills comparators, one to a line of standard input: GROUP X KIND R1 R2 SEED.
 #![tactic(auto)]
 
-mod making;
+mod answering;
+mod comparing;
+mod drilling;
+mod knowledge;
+mod line;
+mod task;
 
 use drill::finding::{Finding, Reencryption};
+use drilling::drill_task;
 use group::{Exponent, Group};
-use making::{Fault, Kind, Outputs, Task, drill_task};
+use kinds::GroupKind;
+use line::Line;
 use modular::modulo23::RESIDUES_MODULO_23;
 use plan::Setting;
 use polynomial::Polynomials;
-use refusal::Reason;
-use std::str::SplitWhitespace;
+use refusal::{Failure, Reason};
+use std::alloc::Global;
+use std::fmt;
+use task::Task;
 
+// What is found, with exponents as they are posted, as it is printed.
 #[derive(Clone, Copy)]
-struct Line {
-    group: u64,
-    task: Task,
-}
+struct Found(Finding<u32>);
 
-// The next word as a number.
-fn next_number(words: &mut SplitWhitespace<'_>) -> Option<u64> {
-    match words.next() {
-        Some(word) => word.parse::<u64>().ok(),
-        None => None,
+impl fmt::Display for Found {
+    fn fmt<W: fmt::Write>(&self, f: &mut fmt::Formatter<W>) -> fmt::Result {
+        match self.0 {
+            Finding::Key(x) => write!(f, "key {x}"),
+            Finding::Outputs(Reencryption { setting, r1, r2 }) => match setting {
+                Setting::Straight => write!(f, "order straight {r1} {r2}"),
+                Setting::Swapped => write!(f, "order swapped {r1} {r2}"),
+            },
+        }
     }
 }
 
-// The kind that a word names.
-fn read_kind(word: &str) -> Option<Kind> {
-    let (outputs, fault) = match word {
-        "straight" => (Outputs::Straight, Fault::Nothing),
-        "swapped" => (Outputs::Swapped, Fault::Nothing),
-        "forged" => (Outputs::Forged, Fault::Nothing),
-        "equal-draws" => (Outputs::Straight, Fault::EqualDraws),
-        "equal-challenges" => (Outputs::Straight, Fault::EqualChallenges),
-        "wrong-answer" => (Outputs::Straight, Fault::WrongAnswer),
-        "unfit-number" => (Outputs::Straight, Fault::UnfitNumber),
-        _ => return None,
-    };
-    Some(Kind { outputs, fault })
-}
-
-fn read_line(text: &str) -> Option<Line> {
-    let mut words = text.split_whitespace();
-    let group = next_number(&mut words)?;
-    let private = next_number(&mut words)?;
-    let kind = read_kind(words.next()?)?;
-    let r1 = next_number(&mut words)?;
-    let r2 = next_number(&mut words)?;
-    let seed = next_number(&mut words)?;
-    Some(Line {
-        group,
-        task: Task {
-            kind,
-            private,
-            r1,
-            r2,
-            seed,
-        },
-    })
-}
-
-// Drills one task in a group, and prints what was found.
-fn answer_in<G: Group>(rt: &HostRuntime, g: &G, task: Task) -> anyhow::Result<()>
+// Drills one task in a group.
+fn drill_in<G: Group>(heap: Global, g: &G, task: Task) -> Result<Found, Failure>
 where
     G::Exponent: Exponent<Posted = u32>,
 {
-    match drill_task(rt.alloc(), g, task)? {
-        Ok(Finding::Key(x)) => {
-            let x = x.post();
-            println!(rt; "key {x}")?;
-        }
-        Ok(Finding::Outputs(outputs)) => {
-            let Reencryption { setting, r1, r2 } = outputs;
-            let r1 = r1.post();
-            let r2 = r2.post();
-            match setting {
-                Setting::Straight => println!(rt; "order straight {r1} {r2}")?,
-                Setting::Swapped => println!(rt; "order swapped {r1} {r2}")?,
-            }
-        }
-        Err(refusal) => rt.println(refusal)?,
-    }
-    Ok(())
+    Ok(Found(drill_task(heap, g, task)?.post()))
 }
 
-// Answers one line.
-fn answer(rt: &HostRuntime, text: &str) -> anyhow::Result<()> {
-    let Some(line) = read_line(text) else {
-        return Ok(rt.println(Reason::ShortRecord.at(0))?);
-    };
-    match line.group {
-        1 => answer_in(rt, &RESIDUES_MODULO_23, line.task),
-        2 => answer_in(rt, &Polynomials, line.task),
-        _ => Ok(rt.println(Reason::UnknownGroupOrPlan.at(0))?),
+// Drills the task of one line.
+fn drill_line(heap: Global, text: &str) -> Result<Found, Failure> {
+    let line = text.parse::<Line>().map_err(|why| why.at(0))?;
+    match line.group_kind().map_err(|why| why.at(0))? {
+        GroupKind::ResiduesModulo23 => drill_in(heap, &RESIDUES_MODULO_23, line.task),
+        GroupKind::BinaryPolynomials => drill_in(heap, &Polynomials, line.task),
     }
 }
 
 fn run(rt: &HostRuntime) -> anyhow::Result<()> {
     for line in rt.lines(rt.alloc()) {
         let line = line?;
-        answer(rt, line.as_str())?;
+        match drill_line(rt.alloc(), line.as_str()) {
+            Ok(found) => rt.println(found)?,
+            Err(Failure::Refused(refusal)) => rt.println(refusal)?,
+            Err(Failure::NoMemory(error)) => return Err(error.into()),
+        }
     }
     Ok(())
 }

@@ -1,1 +1,2 @@
 pub mod Ciphertexts
+pub mod Mapping

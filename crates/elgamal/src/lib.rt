@@ -2,6 +2,7 @@
 #![tactic(auto)]
 
 ghost use Rattle.std.specs.Prelude.{◌≡◌, MatchResult, ◌≢◌};
+ghost use Rattle.elgamal.specs.Mapping.{CiphertextMapped, CiphertextUnmapped};
 ghost use Rattle.refusal.specs.Table.{refused_at};
 ghost use Rattle.refusal.specs.declared.Reason.TheVariants.{KeyIsOne};
 ghost use Rattle.group.specs.Operations.{power};
@@ -15,6 +16,20 @@ use refusal::{Reason, Refusal};
 pub struct Ciphertext<E> {
     pub alpha: E,
     pub beta: E,
+}
+
+impl<E: Drop> Ciphertext<E> {
+    // The ciphertext whose parts a step makes of these, or what the step fails with.
+    pub fn try_map<T: Drop, R, F: Fn(E) -> Result<T, R>>(self, step: &F) -> Result<Ciphertext<T>, R>
+        requires { F.IsAlwaysCallable step.now }
+        ensures { MatchResult result (CiphertextMapped (F.post step.now) self) (CiphertextUnmapped (F.post step.now) self) }
+    {
+        let Ciphertext { alpha, beta } = self;
+        Ok(Ciphertext {
+            alpha: step(alpha)?,
+            beta: step(beta)?,
+        })
+    }
 }
 
 // The public key of a private one; the one is refused, at the place that the caller names.

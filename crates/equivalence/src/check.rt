@@ -13,13 +13,13 @@ ghost use Rattle.refusal.specs.Table.{refused_at};
 ghost use Rattle.refusal.specs.declared.Reason.TheVariants.{UnfitLength, UnfitNumber, BeyondReach};
 
 use crate::equation::{accepts, fold_key, fold_quotient};
-use crate::proofs::{Branch, DisjunctiveProof, EquivalenceProof, Proofs};
+use crate::proofs::{Branch, DisjunctiveProof, EquivalenceProof, OfBoth, Proofs};
 use clearing::Clearing;
 use elgamal::{Ciphertext, multiply};
 use group::reading::{read_challenge, read_exponent};
 use group::{Exponent, Group};
 use posting::comparison::Comparison;
-use posting::drawing::{Commitments, draw_over};
+use posting::drawing::{Challenger, Commitments, buffer_fits};
 use refusal::{Reason, Refusal};
 use source::{Source, c_of, z_of};
 
@@ -28,13 +28,6 @@ use source::{Source, c_of, z_of};
 struct ProofDraws<X> {
     z: X,
     c: u64,
-}
-
-// What both proofs drew.
-#[derive(Clone, Copy)]
-struct Draws<X> {
-    equivalence: ProofDraws<X>,
-    disjunction: ProofDraws<X>,
 }
 
 // Reads one branch's numbers.
@@ -87,55 +80,51 @@ fn read_proofs<E: Copy, X: Exponent>(
 // Draws the two questions of one proof from `first` on: z over the comparison alone, then the challenge over
 // its commitments too.
 fn draw_proof<G: Group, S: Source>(
-    g: &G,
-    source: &S,
+    challenger: &Challenger<'_, G, S>,
     comparison: Comparison<G::Element>,
     commitments: Commitments<G::Element>,
     first: u64,
     buffer: &mut [u8],
-    place: usize,
 ) -> Result<ProofDraws<G::Exponent>, Refusal>
     requires { (11 * G.Group.operations.width ≤ length buffer.old) × (first + 1 < 2 ^ 64) }
     ensures { MatchResult result
-        (λ d. (first + 1 < (S.Source.words source.now).reach) × (proof_draws_meaning G.Exponent.Exponent.value d ≡ proof_draws G.Group.operations G.Exponent.Exponent.exponents (S.Source.words source.now) (comparison_meaning G.Group.point comparison) (commitment_points G.Group.point commitments) first))
-        (λ f. ((S.Source.words source.now).reach ≤ first + 1) × (f ≡ refused_at BeyondReach place)) }
+        (λ d. (first + 1 < (S.Source.words challenger.now.source.now).reach) × (proof_draws_meaning G.Exponent.Exponent.value d ≡ proof_draws G.Group.operations G.Exponent.Exponent.exponents (S.Source.words challenger.now.source.now) (comparison_meaning G.Group.point comparison) (commitment_points G.Group.point commitments) first))
+        (λ f. ((S.Source.words challenger.now.source.now).reach ≤ first + 1) × (f ≡ refused_at BeyondReach challenger.now.place)) }
 {
     let none = Commitments::None;
-    let word = draw_over(g, source, comparison, none, first, buffer, place)?;
+    let word = challenger.draw_over(comparison, none, first, buffer)?;
     let z = z_of::<G::Exponent>(word);
     let next = first + 1;
-    let word = draw_over(g, source, comparison, commitments, next, buffer, place)?;
+    let word = challenger.draw_over(comparison, commitments, next, buffer)?;
     let c = c_of::<G::Exponent>(word);
     Ok(ProofDraws { z, c })
 }
 
 // Draws the four questions from `first` on.
 fn draw_all<G: Group, S: Source>(
-    g: &G,
-    source: &S,
+    challenger: &Challenger<'_, G, S>,
     comparison: Comparison<G::Element>,
     proofs: Proofs<G::Element, G::Exponent>,
     first: u64,
     buffer: &mut [u8],
-    place: usize,
-) -> Result<Draws<G::Exponent>, Refusal>
+) -> Result<OfBoth<ProofDraws<G::Exponent>>, Refusal>
     requires { 11 * G.Group.operations.width ≤ length buffer.old }
     ensures { MatchResult result
-        (λ d. (first + 3 < (S.Source.words source.now).reach) × (draws_meaning G.Exponent.Exponent.value d ≡ draws G.Group.operations G.Exponent.Exponent.exponents (S.Source.words source.now) (comparison_meaning G.Group.point comparison) (proofs_meaning G.Group.point G.Exponent.Exponent.value proofs) first))
-        (λ f. ((S.Source.words source.now).reach ≤ first + 3) × (f ≡ refused_at BeyondReach place)) }
+        (λ d. (first + 3 < (S.Source.words challenger.now.source.now).reach) × (draws_meaning G.Exponent.Exponent.value d ≡ draws G.Group.operations G.Exponent.Exponent.exponents (S.Source.words challenger.now.source.now) (comparison_meaning G.Group.point comparison) (proofs_meaning G.Group.point G.Exponent.Exponent.value proofs) first))
+        (λ f. ((S.Source.words challenger.now.source.now).reach ≤ first + 3) × (f ≡ refused_at BeyondReach challenger.now.place)) }
 {
-    if first.saturating_add(3) >= source.reach() {
-        return Err(Reason::BeyondReach.at(place));
+    if !challenger.reaches(first) {
+        return Err(Reason::BeyondReach.at(challenger.place));
     }
     let one = Commitments::One(proofs.equivalence.commitment);
-    let equivalence = draw_proof(g, source, comparison, one, first, buffer, place)?;
+    let equivalence = draw_proof(challenger, comparison, one, first, buffer)?;
     let DisjunctiveProof {
         first: b1,
         second: b2,
     } = proofs.disjunction;
     let two = Commitments::Two(b1.commitment, b2.commitment);
-    let disjunction = draw_proof(g, source, comparison, two, first + 2, buffer, place)?;
-    Ok(Draws {
+    let disjunction = draw_proof(challenger, comparison, two, first + 2, buffer)?;
+    Ok(OfBoth {
         equivalence,
         disjunction,
     })
@@ -199,7 +188,7 @@ fn check_equations<G: Group>(
     g: &G,
     comparison: Comparison<G::Element>,
     proofs: Proofs<G::Element, G::Exponent>,
-    draws: Draws<G::Exponent>,
+    draws: OfBoth<ProofDraws<G::Exponent>>,
     place: usize,
 ) -> Result<(), Refusal>
     ensures { Answered (judge_equations G.Group.operations (comparison_meaning G.Group.point comparison) (proofs_meaning G.Group.point G.Exponent.Exponent.value proofs) (draws_meaning G.Exponent.Exponent.value draws)) place result }
@@ -214,7 +203,7 @@ fn check_equations<G: Group>(
         disjunction,
     } = proofs;
     let DisjunctiveProof { first, second } = disjunction;
-    let Draws {
+    let OfBoth {
         equivalence: ProofDraws { z, c },
         disjunction: drawn,
     } = draws;
@@ -237,41 +226,38 @@ fn check_equations<G: Group>(
 
 // The check, within a buffer that fits.
 fn check_within<G: Group, S: Source>(
-    g: &G,
-    source: &S,
+    challenger: &Challenger<'_, G, S>,
     comparison: Comparison<G::Element>,
     proofs: Proofs<G::Element, <G::Exponent as Exponent>::Posted>,
     first: u64,
     buffer: &mut [u8],
-    place: usize,
 ) -> Result<(), Refusal>
     requires { 11 * G.Group.operations.width ≤ length buffer.old }
-    ensures { Answered (judge G.Group.operations G.Exponent.Exponent.exponents (S.Source.words source.now) (comparison_meaning G.Group.point comparison) (proofs_meaning G.Group.point G.Exponent.Exponent.number proofs) first) place result }
+    ensures { Answered (judge G.Group.operations G.Exponent.Exponent.exponents (S.Source.words challenger.now.source.now) (comparison_meaning G.Group.point comparison) (proofs_meaning G.Group.point G.Exponent.Exponent.number proofs) first) challenger.now.place result }
 {
+    let Challenger { group, place, .. } = *challenger;
     let proofs = read_proofs::<G::Element, G::Exponent>(proofs, place)?;
-    let draws = draw_all(g, source, comparison, proofs, first, buffer, place)?;
-    check_equations(g, comparison, proofs, draws, place)
+    let draws = draw_all(challenger, comparison, proofs, first, buffer)?;
+    check_equations(group, comparison, proofs, draws, place)
 }
 
 // Checks what a server posted for a comparator: taken exactly where every number is fit, the source reaches
 // four questions from `first` on, and each equation holds at what was drawn. The buffer ends as zeros.
 pub fn check<G: Group, S: Source>(
-    g: &G,
-    source: &S,
+    challenger: &Challenger<'_, G, S>,
     comparison: Comparison<G::Element>,
     proofs: Proofs<G::Element, <G::Exponent as Exponent>::Posted>,
     first: u64,
     buffer: &mut [u8],
-    place: usize,
 ) -> Result<(), Refusal>
-    ensures verdict { Answered (unless (buffer_fits G.Group.operations (length buffer.old)) UnfitLength (judge G.Group.operations G.Exponent.Exponent.exponents (S.Source.words source.now) (comparison_meaning G.Group.point comparison) (proofs_meaning G.Group.point G.Exponent.Exponent.number proofs) first)) place result }
-    ensures exact { (is_ok result ≡ true → Holds G.Group.operations G.Exponent.Exponent.exponents (S.Source.words source.now) (comparison_meaning G.Group.point comparison) (proofs_meaning G.Group.point G.Exponent.Exponent.number proofs) first)
-        × (11 * G.Group.operations.width ≤ length buffer.old → Holds G.Group.operations G.Exponent.Exponent.exponents (S.Source.words source.now) (comparison_meaning G.Group.point comparison) (proofs_meaning G.Group.point G.Exponent.Exponent.number proofs) first → is_ok result ≡ true) }
+    ensures verdict { Answered (unless (buffer_fits G.Group.operations (length buffer.old)) UnfitLength (judge G.Group.operations G.Exponent.Exponent.exponents (S.Source.words challenger.now.source.now) (comparison_meaning G.Group.point comparison) (proofs_meaning G.Group.point G.Exponent.Exponent.number proofs) first)) challenger.now.place result }
+    ensures exact { (is_ok result ≡ true → Holds G.Group.operations G.Exponent.Exponent.exponents (S.Source.words challenger.now.source.now) (comparison_meaning G.Group.point comparison) (proofs_meaning G.Group.point G.Exponent.Exponent.number proofs) first)
+        × (11 * G.Group.operations.width ≤ length buffer.old → Holds G.Group.operations G.Exponent.Exponent.exponents (S.Source.words challenger.now.source.now) (comparison_meaning G.Group.point comparison) (proofs_meaning G.Group.point G.Exponent.Exponent.number proofs) first → is_ok result ≡ true) }
     ensures cleared { buffer.new ≡ zeros 0 buffer.old }
 {
     let buffer = Clearing { places: buffer };
-    if buffer.places.len() < 11 * g.code_width() {
-        return Err(Reason::UnfitLength.at(place));
+    if !buffer_fits::<G>(buffer.places.len()) {
+        return Err(Reason::UnfitLength.at(challenger.place));
     }
-    check_within(g, source, comparison, proofs, first, buffer.places, place)
+    check_within(challenger, comparison, proofs, first, buffer.places)
 }

@@ -11,10 +11,7 @@ pub const FOUR_BYTES: usize = 4;
 pub fn read_four_bytes(code: &[u8]) -> Option<u32>
     ensures { MatchOption result (length code.now ≢ 4) (λ n. four_bytes n ≡ code.now) }
 {
-    let [a, b, c, d] = code else {
-        return None;
-    };
-    Some(u32::from_be_bytes([*a, *b, *c, *d]))
+    Some(u32::from_be_bytes(code.try_into().ok()?))
 }
 
 // Writes the number into a buffer of four bytes; into another nothing is written.

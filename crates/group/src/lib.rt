@@ -8,8 +8,8 @@ ghost use Rattle.group.specs.Operations.{Operations, GroupLaws, power};
 pub mod codes;
 pub mod reading;
 
-// A kind of exponents, known by its laws: the whole numbers below its order.
-pub trait Exponent: Copy {
+// A kind of exponents, known by its laws: the whole numbers below its order. Two are equal where they are one number.
+pub trait Exponent: Copy + PartialEq {
     // A number as it is posted, which may be too large.
     type Posted: Copy;
 
@@ -43,16 +43,14 @@ pub trait Exponent: Copy {
     fn read(posted: Self::Posted) -> Option<Self>
         ensures { MatchOption result (exponents.order ≤ number posted) (λ e. value e ≡ number posted) };
 
-    // Whether two posted numbers are the same, fit or not.
+    // Whether two posted numbers are the same, fit or not. It is no `==`, which would ask one of every card's numbers, for
+    // the one call that compares them.
     fn same_posted(a: Self::Posted, b: Self::Posted) -> bool
         ensures { result ≡ (number a == number b) };
 
     // The number to post.
     fn post(self) -> Self::Posted
         ensures { number result ≡ value self };
-
-    fn equals(self, other: Self) -> bool
-        ensures { result ≡ (value self == value other) };
 
     fn add(self, other: Self) -> Self
         ensures { value result ≡ sum exponents (value self) (value other) };
@@ -66,10 +64,12 @@ pub trait Exponent: Copy {
     // The inverse, and 0 for 0.
     fn invert(self) -> Self
         ensures { value result ≡ exponents.inverse (value self) };
+
+    ghost compared: { (a b : Self) → Self.eq a b ≡ (value a == value b) };
 }
 
 // A code was to be written into a buffer of another length.
-#[derive(Clone, Copy)]
+#[derive(Clone, Copy, Debug, PartialEq, Eq)]
 pub struct WrongLength;
 
 // A group, known by its laws. What an element means is a point: a card's handles may differ for one point.
@@ -80,6 +80,9 @@ pub trait Group {
 
     // How many bytes an element's code has.
     const WIDTH: usize;
+
+    // The same number, where a contract speaks of it.
+    ghost WIDTH: { ℕ };
 
     ghost Point: { Type 0 };
 
@@ -133,10 +136,6 @@ pub trait Group {
         ensures same { result ≡ true → point a ≡ point b }
         ensures told { point a ≡ point b → result ≡ true };
 
-    // `WIDTH`, where a contract can speak of it.
-    fn code_width(&self) -> usize
-        ensures { result ≡ operations.width };
-
     // Writes the element's code into a buffer of its length; into another nothing is written.
     fn write(&self, a: Self::Element, out: &mut [u8]) -> Result<(), WrongLength>
         ensures { Written operations.width (operations.code (point a)) out.old out.new result };
@@ -144,4 +143,6 @@ pub trait Group {
     // The element of a code; none where no element has it.
     fn read(&self, code: &[u8]) -> Option<Self::Element>
         ensures { MatchOption result ((x : Point) → operations.code x ≢ code.now) (λ e. operations.code (point e) ≡ code.now) };
+
+    ghost wide: { WIDTH ≡ operations.width };
 }

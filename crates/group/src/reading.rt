@@ -12,10 +12,7 @@ use refusal::{Reason, Refusal};
 pub fn read_element<G: Group>(g: &G, code: &[u8], place: usize) -> Result<G::Element, Refusal>
     ensures { MatchResult result (λ e. G.Group.operations.code (G.Group.point e) ≡ code.now) (λ f. (f ≡ refused_at NoElement place) × ((x : G.Group.Point) → G.Group.operations.code x ≢ code.now)) }
 {
-    match g.read(code) {
-        Some(element) => Ok(element),
-        None => Err(Reason::NoElement.at(place)),
-    }
+    g.read(code).ok_or(Reason::NoElement.at(place))
 }
 
 // The element whose code is the number in four bytes.
@@ -29,10 +26,7 @@ pub fn read_number<G: Group>(g: &G, number: u32, place: usize) -> Result<G::Elem
 pub fn read_exponent<E: Exponent>(posted: E::Posted, place: usize) -> Result<E, Refusal>
     ensures { MatchResult result (λ e. E.Exponent.value e ≡ E.Exponent.number posted) (λ f. (f ≡ refused_at UnfitNumber place) × (E.Exponent.exponents.order ≤ E.Exponent.number posted)) }
 {
-    match E::read(posted) {
-        Some(exponent) => Ok(exponent),
-        None => Err(Reason::UnfitNumber.at(place)),
-    }
+    E::read(posted).ok_or(Reason::UnfitNumber.at(place))
 }
 
 // The challenge that was posted: taken exactly where it has no more bits than a challenge.

@@ -18,15 +18,15 @@ kind_of (Butterfly b) = Kind.Butterfly
 
 abbrev pub width_of : KnownPlan → ℕ
 width_of (Chain c) = c.width
-width_of (Butterfly b) = 2 ^ b.levels
+width_of (Butterfly b) = 2 ^ b.levels.count
 
 abbrev pub listing_of : KnownPlan → List Comparator
 listing_of (Chain c) = chain c.width
-listing_of (Butterfly b) = butterfly b.levels
+listing_of (Butterfly b) = butterfly b.levels.count
 
 pub known_lawful : (p : KnownPlan) → Lawful (width_of p) (listing_of p)
 known_lawful (Chain c) = chain_lawful c.width c.fits
-known_lawful (Butterfly b) = butterfly_lawful b.levels b.fits.0 b.fits.1
+known_lawful (Butterfly b) = butterfly_lawful b.levels.count b.some b.levels.few
 
 -- the plan is of this kind, over n wires, and lists what the kind does
 pub record IsOfKind (k : PlanKind) (n : ℕ) (p : KnownPlan) : Type 0 where

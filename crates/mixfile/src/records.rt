@@ -6,7 +6,7 @@ ghost use Rattle.equivalence.specs.Judgement.{branch_meaning, proofs_meaning};
 ghost use Rattle.group.specs.Codes.{four_bytes};
 ghost use Rattle.posting.specs.Comparison.{pair_meaning};
 ghost use Rattle.prover.specs.States.{message_meaning};
-ghost use Rattle.roundcheck.specs.Events.{message_of, CiphertextRead, PairRead, BranchRead, ProofsRead};
+ghost use Rattle.roundcheck.specs.Events.{message_of};
 ghost use Rattle.mixfile.specs.Turns.{MessageRead, Stopped};
 
 use elgamal::Ciphertext;
@@ -29,68 +29,6 @@ fn number_of<G: Group>(group: &G, element: G::Element) -> Result<u32, Reason>
     read_four_bytes(&code).ok_or(Reason::UnfitLength)
 }
 
-fn ciphertext_codes<G: Group>(
-    group: &G,
-    posted: Ciphertext<G::Element>,
-) -> Result<Ciphertext<u32>, Reason>
-    ensures { MatchResult result (λ codes. CiphertextRead G.Group.operations codes (meaning G.Group.point posted)) Stopped }
-{
-    let alpha = number_of(group, posted.alpha)?;
-    let beta = number_of(group, posted.beta)?;
-    Ok(Ciphertext { alpha, beta })
-}
-
-fn pair_codes<G: Group>(group: &G, posted: Pair<G::Element>) -> Result<Pair<u32>, Reason>
-    ensures { MatchResult result (λ codes. PairRead G.Group.operations codes (pair_meaning G.Group.point posted)) Stopped }
-{
-    let first = ciphertext_codes(group, posted.first)?;
-    let second = ciphertext_codes(group, posted.second)?;
-    Ok(Pair { first, second })
-}
-
-fn branch_codes<G: Group>(
-    group: &G,
-    posted: Branch<G::Element, u32>,
-) -> Result<Branch<u32, u32>, Reason>
-where
-    G::Exponent: Exponent<Posted = u32>,
-    ensures { MatchResult result (λ codes. BranchRead G.Group.operations G.Exponent.Exponent.number codes (branch_meaning G.Group.point G.Exponent.Exponent.number posted)) Stopped }
-{
-    let Branch {
-        commitment,
-        challenge,
-        answer,
-    } = posted;
-    let commitment = number_of(group, commitment)?;
-    Ok(Branch {
-        commitment,
-        challenge,
-        answer,
-    })
-}
-
-fn proofs_codes<G: Group>(
-    group: &G,
-    posted: Proofs<G::Element, u32>,
-) -> Result<Proofs<u32, u32>, Reason>
-where
-    G::Exponent: Exponent<Posted = u32>,
-    ensures { MatchResult result (λ codes. ProofsRead G.Group.operations G.Exponent.Exponent.number codes (proofs_meaning G.Group.point G.Exponent.Exponent.number posted)) Stopped }
-{
-    let Proofs {
-        equivalence,
-        disjunction,
-    } = posted;
-    let EquivalenceProof { commitment, answer } = equivalence;
-    let commitment = number_of(group, commitment)?;
-    let first = branch_codes(group, disjunction.first)?;
-    let second = branch_codes(group, disjunction.second)?;
-    Ok(Proofs {
-        equivalence: EquivalenceProof { commitment, answer },
-        disjunction: DisjunctiveProof { first, second },
-    })
-}
-
 // A message with codes in the place of its elements.
 pub(crate) fn message_codes<G: Group>(
     group: &G,
@@ -100,9 +38,7 @@ where
     G::Exponent: Exponent<Posted = u32>,
     ensures { MatchResult result (λ codes. MessageRead G.Group.operations G.Exponent.Exponent.number codes (message_meaning G.Group.point G.Exponent.Exponent.number posted)) Stopped }
 {
-    let outputs = pair_codes(group, posted.outputs)?;
-    let proofs = proofs_codes(group, posted.proofs)?;
-    Ok(Message { outputs, proofs })
+    posted.try_map(&|element| number_of(group, element))
 }
 
 // A challenge as a record's number; refused where it has more than 32 bits.

@@ -195,7 +195,7 @@ impl Finish for Turn<'_> {
             settings.as_mut_slice(),
         )
         .map_err(|reason| reason.at(end))?;
-        let mut buffer = vec![in heap; 0u8; 11 * setup.group.code_width()]?;
+        let mut buffer = vec![in heap; 0u8; 11 * G::WIDTH]?;
         let mut bytes = file.to_vec(heap)?;
         add_records(
             board,

@@ -20,7 +20,8 @@ pub(crate) fn multiply_modulo(a: u32, b: u32, m: u32) -> u32
     product(a, b) % m
 }
 
-// The power of a remainder by m, by squaring.
+// The power of a remainder by m, by squaring. `Group::raise_word` squares too, but by a group's laws, and here the
+// remainders need be no elements of one: a trait of multiplication for both would be longer than the two loops.
 pub(crate) fn power_modulo(a: u32, e: u32, m: u32) -> u32
     requires below { a < m }
     requires large { 1 < m }

@@ -1,5 +1,6 @@
 // Exponents modulo a prime order of at most 13 bits.
 ghost use Rattle.std.specs.Prelude.{◌≡◌, ◌%◌, ◌<◌, T};
+ghost use Rattle.std.proofs.Common.{rules};
 ghost use Rattle.modular.specs.Laws.{modular_laws};
 ghost use Rattle.modular.specs.Modular.{modular, order_test};
 
@@ -13,7 +14,9 @@ pub trait PrimeOrder<const Q: u32, const L: u32>: Copy {
     ghost tested: { T (order_test Q L) };
 }
 
-// An exponent: a number below Q.
+// An exponent: a number below Q. Its `Clone` is written by hand, since the language derives none for a generic struct
+// with a ghost field.
+#[derive_where(PartialEq)]
 pub struct Modular<const Q: u32, const L: u32, M> {
     value: u32,
     marker: PhantomData<M>,
@@ -98,10 +101,6 @@ impl<const Q: u32, const L: u32, M: PrimeOrder<Q, L>> Exponent for Modular<Q, L,
         self.value
     }
 
-    fn equals(self, other: Self) -> bool {
-        self.value == other.value
-    }
-
     fn add(self, other: Self) -> Self {
         Modular::reduced(self.value as u64 + other.value as u64)
     }
@@ -123,4 +122,6 @@ impl<const Q: u32, const L: u32, M: PrimeOrder<Q, L>> Exponent for Modular<Q, L,
             marker: PhantomData,
         }
     }
+
+    ghost compared = { Prim.search rules };
 }

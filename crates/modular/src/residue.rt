@@ -1,5 +1,5 @@
 // The group of the residues a modulo a prime P with a^Q = 1.
-ghost use Rattle.std.specs.Prelude.{◌≡◌, T, Some, decimal, MatchOption};
+ghost use Rattle.std.specs.Prelude.{◌≡◌, T, Some, decimal, MatchOption, refl};
 ghost use Rattle.modular.specs.ResidueLaws.{residue_laws};
 ghost use Rattle.modular.specs.Residues.{member, Residue as ResiduePoint, subgroup_test, residues};
 
@@ -69,6 +69,8 @@ impl<
 
     const WIDTH: usize = FOUR_BYTES;
 
+    ghost WIDTH = { 4 };
+
     ghost Point = { ResiduePoint P Q };
 
     ghost point = { λ x. (x.value, x.member) };
@@ -109,18 +111,13 @@ impl<
         a.value == b.value
     }
 
-    fn code_width(&self) -> usize {
-        FOUR_BYTES
-    }
-
     fn write(&self, a: Residue<P, Q>, out: &mut [u8]) -> Result<(), WrongLength> {
         write_four_bytes(a.value, out)
     }
 
     fn read(&self, code: &[u8]) -> Option<Residue<P, Q>> {
-        match read_four_bytes(code) {
-            Some(number) => Self::element(number),
-            None => None,
-        }
+        Self::element(read_four_bytes(code)?)
     }
+
+    ghost wide = { refl };
 }

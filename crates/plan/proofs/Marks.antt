@@ -1,7 +1,6 @@
 -- The loop that reads a permutation and writes its inverse.
-use Rattle.std.proofs.Common.{◌≡◌, ℕ, ◌+◌, ◌<◌, ◌≤◌, List, length, set, replicate, sym, ap, ◌∙◌, arith}
-use Rattle.std.proofs.lemmas.Bool.{cases_eq}
-use Rattle.std.proofs.lemmas.List.{get_or-set_same, get_or-set_other, length-set, get_or-replicate, length-replicate}
+use Rattle.std.proofs.Common.{◌≡◌, ℕ, ◌<◌, List, length, replicate, sym, ap, ◌∙◌, arith}
+use Rattle.std.proofs.lemmas.List.{get_or-replicate, length-replicate}
 use Rattle.plan.specs.Plans.{at, Permutation, Inverse}
 use Rattle.plan.proofs.Onto.{inverse_from}
 
@@ -21,18 +20,6 @@ marked_none n p =
       only = λ y h e. absurd (e (get_or-replicate 64 y 64 0 h));
     }
 
-pub marked_more : (x n : ℕ) (p q : List ℕ) → n ≤ 64 → x < 64 → at p x < n → at q (at p x) ≡ 64 → Marked x n p q → Marked (x + 1) n p (set q (at p x) x)
-marked_more x n p q l b v e m =
-    let h = m.long in
-    record {
-      long = length-set q (at p x) x ∙ h;
-      below = λ k u. let c = cases_eq k x in let o = m.below k in grind arith;
-      told = λ k u. let c = cases_eq k x in let o = m.told k in let d = cases_eq (at p k) (at p x) in
-          grind (arith, get_or-set_same, get_or-set_other);
-      only = λ y u w. let c = cases_eq y (at p x) in let o = m.only y u in
-          grind (arith, get_or-set_same, get_or-set_other);
-    }
-
 pub marked_permutation : (n : ℕ) (p q : List ℕ) → length p ≡ n → Marked n n p q → Permutation n p
 marked_permutation n p q l m =
     record {
@@ -43,11 +30,3 @@ marked_permutation n p q l m =
 
 pub marked_inverse : (n : ℕ) (p q : List ℕ) → length p ≡ n → Marked n n p q → Inverse n (at p) (at q)
 marked_inverse n p q l m = inverse_from n p (at q) (marked_permutation n p q l m) m.told
-
--- an entry that stands in the table already is there twice
-pub marked_twice : (x n : ℕ) (p q : List ℕ) → n ≤ 64 → x < n → at p x < n → (at q (at p x) ≡ 64 → ⊥) → Marked x n p q → Permutation n p → ⊥
-marked_twice x n p q l h b e m v =
-    let o = m.only (at p x) (omega arith) e in
-    let o0 = o.0 in
-    let d = v.distinct (at q (at p x)) x (omega arith) h o.1 in
-    omega arith

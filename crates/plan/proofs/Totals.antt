@@ -49,21 +49,6 @@ sums_along_routes X act a d n cs ss ws p xs v b m h j l =
     get_or_run_changing act a d n cs ss ws xs j v h b.count m
     ∙ ap (λ y. act (get_or xs y d) (route_sum cs ss ws j)) (source_brought n cs ss p j v b l)
 
--- one comparator of a run from the k-th on, and the end of the run
-pub run_changing_more : {X : Type 0} (act : X → ℕ → X) (d : X) (cs : List Comparator) (ss : List Setting) (ws : List (ℕ × ℕ)) (xs ys zs : List X) (k : ℕ) (c : Comparator) (s : Setting) (w : ℕ × ℕ) →
-    nth cs k ≡ Some c → k < length ss → k < length ws → ys ≡ changed act d c (get_or ss k s) (get_or ws k w) xs →
-    run_changing act d (drop k cs) (drop k ss) (drop k ws) xs ≡ zs → run_changing act d (drop (k + 1) cs) (drop (k + 1) ss) (drop (k + 1) ws) ys ≡ zs
-unfolding run_changing
-run_changing_more act d cs ss ws xs ys zs k c s w e h l g i =
-    ap (run_changing act d (drop (k + 1) cs) (drop (k + 1) ss) (drop (k + 1) ws)) g
-    ∙ ap₂ (λ t u. run_changing act d t u (get_or ws k w ∷ drop (k + 1) ws) xs) (sym (nth_drop cs k c e)) (sym (drop_more ss k s h))
-    ∙ ap (λ u. run_changing act d (drop k cs) (drop k ss) u xs) (sym (drop_more ws k w l)) ∙ i
-
-pub run_changing_all : {X : Type 0} (act : X → ℕ → X) (d : X) (cs : List Comparator) (ss : List Setting) (ws : List (ℕ × ℕ)) (xs : List X) (k : ℕ) → length cs ≤ k →
-    run_changing act d (drop k cs) (drop k ss) (drop k ws) xs ≡ xs
-unfolding run_changing
-run_changing_all act d cs ss ws xs k h = rw (drop_all k cs)
-
 -- a route followed back: its beginning, where all comparators are still to come; one comparator more, the one before the
 -- k-th; and its end
 pub back_none : (cs : List Comparator) (ss : List Setting) (ws : List (ℕ × ℕ)) (x k : ℕ) → length cs ≤ k →

@@ -1,6 +1,6 @@
 #![tactic(auto)]
 
-ghost use Rattle.std.specs.Prelude.{◌≡◌, ℕ, ◌<◌, ◌≤◌, true, List, length, is_ok, Decides, MatchOption, MatchResult, slice_index_or};
+ghost use Rattle.std.specs.Prelude.{◌≡◌, ℕ, ◌<◌, ◌≤◌, true, List, length, take, is_ok, Decides, MatchOption, MatchResult, slice_index_or};
 ghost use Rattle.plan.specs.declared.Comparator.{Comparator};
 ghost use Rattle.plan.specs.Plans.{setting_number, applied, run, nth, at, Lawful, Permutation, Inverse, Tabled, Misread, Routed, Ran, Brings, came_from};
 ghost use Rattle.plan.specs.declared.Setting.TheVariants.{Straight};
@@ -10,18 +10,18 @@ use clearing::Zero;
 use refusal::{Reason, Refusal};
 
 // How a comparator is set: its two items keep their wires, or change places.
-#[derive(Clone, Copy)]
+#[derive(Clone, Copy, PartialEq, Eq)]
 pub enum Setting {
     Straight,
     Swapped,
 }
 
-impl Setting {
-    // The number by which the setting is written.
-    pub fn number(self) -> u8
-        ensures { result ≡ setting_number self }
-    {
-        match self {
+// The number by which a setting is written.
+impl From<Setting> for u8 {
+    ghost from_gives = { λ setting number. number ≡ setting_number setting };
+
+    fn from(setting: Setting) -> u8 {
+        match setting {
             Setting::Straight => 0,
             Setting::Swapped => 1,
         }
@@ -38,7 +38,7 @@ impl Zero for Setting {
 }
 
 // A comparator on two wires, the lower one first.
-#[derive(Clone, Copy)]
+#[derive(Clone, Copy, PartialEq, Eq)]
 pub struct Comparator {
     pub first: usize,
     pub second: usize,
@@ -96,9 +96,9 @@ pub fn run_plan<P: Plan, T>(plan: &P, settings: &[Setting], items: &mut [T]) -> 
     if !fits(plan, settings.len(), items.len()) {
         return Err(Reason::UnfitLength.at(0));
     }
-    for k in 0..settings.len() {
+    for (k, setting) in settings.iter().enumerate() {
         if let Some(comparator) = plan.comparator(k) {
-            apply(comparator, settings[k], items);
+            apply(comparator, *setting, items);
         }
     }
     Ok(())
@@ -107,14 +107,17 @@ pub fn run_plan<P: Plan, T>(plan: &P, settings: &[Setting], items: &mut [T]) -> 
 // A permutation of at most 64 wires and its inverse, as tables whose first entries count.
 #[derive(Clone, Copy)]
 pub struct Shuffle {
-    pub entries: [u8; 64],
-    pub inverse: [u8; 64],
+    wires: usize,
+    entries: [u8; 64],
+    inverse: [u8; 64],
+    ghost narrow: { wires ≤ 64 },
+    ghost inverses: { Inverse wires (at entries) (at inverse) },
 }
 
 impl Shuffle {
     // Reads a permutation of so many wires; refuses a list that is none.
     pub fn read(permutation: &[usize], wires: usize) -> Result<Shuffle, Refusal>
-        ensures { MatchResult result (λ s. Tabled wires permutation.now s.entries s.inverse) (Misread wires permutation.now) }
+        ensures { MatchResult result (λ s. (s.wires ≡ wires) × Tabled wires permutation.now s.entries s.inverse) (Misread wires permutation.now) }
     {
         if permutation.len() != wires || wires > 64 {
             return Err(Reason::UnfitLength.at(0));
@@ -123,7 +126,27 @@ impl Shuffle {
             return Err(Reason::NoPermutation.at(0));
         };
         let entries = copied(permutation);
-        Ok(Shuffle { entries, inverse })
+        Ok(Shuffle {
+            wires,
+            entries,
+            inverse,
+        })
+    }
+
+    // For each wire, the wire on which the item starts that ends there.
+    pub fn entries(&self) -> &[u8]
+        ensures entries { result.now ≡ take self.now.wires self.now.entries }
+        ensures length { length result.now ≡ self.now.wires }
+    {
+        &self.entries[..self.wires]
+    }
+
+    // For each wire, the wire on which the item ends that starts there.
+    pub fn inverse(&self) -> &[u8]
+        ensures inverse { result.now ≡ take self.now.wires self.now.inverse }
+        ensures length { length result.now ≡ self.now.wires }
+    {
+        &self.inverse[..self.wires]
     }
 }
 
@@ -134,13 +157,13 @@ fn copied(entries: &[usize]) -> [u8; 64]
     ensures { (x : ℕ) → x < length entries.now → at result x ≡ at entries.now x }
 {
     let mut table = [0; 64];
-    for x in 0..entries.len() {
-        table[x] = entries[x] as u8;
+    for (x, entry) in entries.iter().enumerate() {
+        table[x] = *entry as u8;
     }
     table
 }
 
-// What stands in a table where no wire is named.
+// What stands in a table where no wire is named. It is no Option, since the full table is the inverse itself.
 const NONE: u8 = 64;
 
 // Whether a wire is one of so many, and is not named in the table yet.
@@ -157,12 +180,11 @@ fn inverted(permutation: &[usize]) -> Option<[u8; 64]>
     ensures { MatchOption result (Permutation (length permutation.now) permutation.now → ⊥) (λ q. Permutation (length permutation.now) permutation.now × Inverse (length permutation.now) (at permutation.now) (at q)) }
 {
     let mut inverse = [NONE; 64];
-    for x in 0..permutation.len() {
-        let y = permutation[x];
-        if !is_new(&inverse, y, permutation.len()) {
+    for (x, entry) in permutation.iter().enumerate() {
+        if !is_new(&inverse, *entry, permutation.len()) {
             return None;
         }
-        inverse[y] = x as u8;
+        inverse[*entry] = x as u8;
     }
     Some(inverse)
 }
@@ -212,6 +234,7 @@ pub fn follow<'a, P: Plan, T>(
     }
     let mut start = wire;
     let mut sum: u128 = 0;
+    // By number, since the plan's comparators are asked for by number; a zip of the lists would be numbered too.
     for k in (0..settings.len()).rev() {
         if let Some(comparator) = plan.comparator(k) {
             sum += word_taken(comparator, words[k], start) as u128;

@@ -1,7 +1,7 @@
 // Group 2: the polynomials in t over bits but 0, modulo t^13 + t^4 + t^3 + t + 1, from the generator t.
 #![tactic(auto)]
 
-ghost use Rattle.std.specs.Prelude.{◌≡◌, ℕ, ◌<◌, T, Some, decimal, MatchOption, bit_xor};
+ghost use Rattle.std.specs.Prelude.{◌≡◌, ℕ, ◌<◌, T, Some, decimal, MatchOption, bit_xor, refl};
 ghost use Rattle.polynomial.specs.Laws.{polynomial_laws};
 ghost use Rattle.polynomial.specs.Polynomials.{nonzero, Nonzero, polynomials};
 ghost use Rattle.polynomial.specs.Product.{times_t, product};
@@ -85,6 +85,8 @@ impl Group for Polynomials {
 
     const WIDTH: usize = FOUR_BYTES;
 
+    ghost WIDTH = { 4 };
+
     ghost Point = { Nonzero };
 
     ghost point = { λ x. (x.value, x.nonzero) };
@@ -123,18 +125,13 @@ impl Group for Polynomials {
         a.value == b.value
     }
 
-    fn code_width(&self) -> usize {
-        FOUR_BYTES
-    }
-
     fn write(&self, a: Polynomial, out: &mut [u8]) -> Result<(), WrongLength> {
         write_four_bytes(a.value, out)
     }
 
     fn read(&self, code: &[u8]) -> Option<Polynomial> {
-        match read_four_bytes(code) {
-            Some(number) => element(number),
-            None => None,
-        }
+        element(read_four_bytes(code)?)
     }
+
+    ghost wide = { refl };
 }

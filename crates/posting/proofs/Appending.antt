@@ -1,5 +1,5 @@
 -- Codes that were written one after another.
-use Rattle.std.proofs.Common.{◌≡◌, ℕ, ◌+◌, ◌-◌, ◌*◌, List, [], ◌∷◌, ◌++◌, length, take, Ok, Err, Result, sym, refl, ap, ◌∙◌, append_assoc, append-nil, add-mul, arith, length-append}
+use Rattle.std.proofs.Common.{◌≡◌, ℕ, ◌+◌, ◌*◌, List, [], ◌∷◌, ◌++◌, length, take, Ok, Err, Result, sym, refl, ap, ◌∙◌, append_assoc, append-nil, add-mul, arith, length-append, subst}
 use Rattle.group.specs.Codes.{Written}
 use Rattle.group.specs.Operations.{Operations}
 use Rattle.posting.specs.Posting.{codes, Appended}
@@ -35,8 +35,6 @@ pub appended_none : {P : Type 0} (G : Operations P) (at : ℕ) (buffer : List �
 unfolding codes
 appended_none G at buffer = record { ends = omega arith; bytes = sym (append-nil (take at buffer)) }
 
--- what stands at the buffer's front, as the part of it from 0
-pub front : {P : Type 0} {G : Operations P} {xs : List P} {end : ℕ} {before after : List ℕ} → Appended G xs 0 end before after → take (end - 0) after ≡ codes G xs
-front {P} {G} {xs} {end} {before} {after} p =
-    let e : end - 0 ≡ end = omega arith in
-    ap (λ (n : ℕ). take n after) e ∙ p.bytes
+-- what was written from the buffer's front on
+pub front : {P : Type 0} {G : Operations P} {xs : List P} {at end : ℕ} {before after : List ℕ} → Appended G xs at end before after → at ≡ 0 → take end after ≡ codes G xs
+front {P} {G} {xs} {at} {end} {before} {after} p e = let Q : ℕ → Type 0 = λ k. take end after ≡ take k before ++ codes G xs in subst Q e p.bytes

@@ -2,3 +2,4 @@ pub mod Comparison
 pub mod Posting
 pub mod Commitments
 pub mod Drawing
+pub mod Mapping

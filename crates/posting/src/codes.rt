@@ -1,5 +1,5 @@
 // Codes written one after another into the posting buffer.
-ghost use Rattle.std.specs.Prelude.{◌+◌, ◌*◌, ◌≤◌, [], ◌∷◌, length};
+ghost use Rattle.std.specs.Prelude.{◌≡◌, ◌+◌, ◌*◌, ◌≤◌, [], ◌∷◌, length, take};
 ghost use Rattle.elgamal.specs.Ciphertexts.{meaning};
 ghost use Rattle.posting.specs.Comparison.{pair_meaning, comparison_meaning, ciphertext_points, pair_points, posted};
 ghost use Rattle.posting.specs.Commitments.{commitment_points};
@@ -10,66 +10,84 @@ use crate::drawing::Commitments;
 use elgamal::Ciphertext;
 use group::Group;
 
-// Writes an element's code to the buffer at a place, and answers where it ends.
-fn post_element<G: Group>(g: &G, element: G::Element, buffer: &mut [u8], at: usize) -> usize
-    requires { at + G.Group.operations.width ≤ length buffer.old }
-    ensures { Appended G.Group.operations (G.Group.point element ∷ []) at result buffer.old buffer.new }
-{
-    let end = at + g.code_width();
-    let _ = g.write(element, &mut buffer[at..end]);
-    end
+// A posting buffer, and how far it is written.
+#[derive(Drop)]
+pub(crate) struct CodeWriter<'a, G> {
+    group: &'a G,
+    buffer: &'a mut [u8],
+    end: usize,
+    ghost within: { end ≤ length buffer.now },
 }
 
-fn post_ciphertext<G: Group>(
-    g: &G,
-    c: Ciphertext<G::Element>,
-    buffer: &mut [u8],
-    at: usize,
-) -> usize
-    requires { at + 2 * G.Group.operations.width ≤ length buffer.old }
-    ensures { Appended G.Group.operations (ciphertext_points (meaning G.Group.point c)) at result buffer.old buffer.new }
-{
-    let end = post_element(g, c.alpha, buffer, at);
-    post_element(g, c.beta, buffer, end)
-}
+impl<'a, G: Group> CodeWriter<'a, G> {
+    // A writer at the buffer's front.
+    pub(crate) fn new(group: &'a G, buffer: &'a mut [u8]) -> CodeWriter<'a, G>
+        ensures { (result.end ≡ 0) × (result.buffer.now ≡ buffer.entry.now) }
+    {
+        CodeWriter {
+            group,
+            buffer,
+            end: 0,
+        }
+    }
 
-fn post_pair<G: Group>(g: &G, pair: Pair<G::Element>, buffer: &mut [u8], at: usize) -> usize
-    requires { at + 4 * G.Group.operations.width ≤ length buffer.old }
-    ensures { Appended G.Group.operations (pair_points (pair_meaning G.Group.point pair)) at result buffer.old buffer.new }
-{
-    let end = post_ciphertext(g, pair.first, buffer, at);
-    post_ciphertext(g, pair.second, buffer, end)
-}
+    // What was written so far.
+    pub(crate) fn written(&self) -> &[u8]
+        ensures { result.now ≡ take self.now.end self.now.buffer.now }
+    {
+        &self.buffer[..self.end]
+    }
 
-// Writes the codes of the key, inputs and outputs to the buffer's front.
-pub(crate) fn post_comparison<G: Group>(
-    g: &G,
-    comparison: Comparison<G::Element>,
-    buffer: &mut [u8],
-) -> usize
-    requires { 9 * G.Group.operations.width ≤ length buffer.old }
-    ensures { Appended G.Group.operations (posted (comparison_meaning G.Group.point comparison) []) 0 result buffer.old buffer.new }
-{
-    let end = post_element(g, comparison.key, buffer, 0);
-    let end = post_pair(g, comparison.inputs, buffer, end);
-    post_pair(g, comparison.outputs, buffer, end)
-}
+    fn element(&mut self, element: G::Element)
+        requires { self.old.end + G.Group.operations.width ≤ length self.old.buffer.now }
+        ensures codes { Appended G.Group.operations (G.Group.point element ∷ []) self.old.end self.new.end self.old.buffer.now self.new.buffer.now }
+        ensures long { length self.new.buffer.now ≡ length self.old.buffer.now }
+    {
+        let end = self.end + G::WIDTH;
+        let _ = self.group.write(element, &mut self.buffer[self.end..end]);
+        self.end = end;
+    }
 
-pub(crate) fn post_commitments<G: Group>(
-    g: &G,
-    commitments: Commitments<G::Element>,
-    buffer: &mut [u8],
-    at: usize,
-) -> usize
-    requires { at + 2 * G.Group.operations.width ≤ length buffer.old }
-    ensures { Appended G.Group.operations (commitment_points G.Group.point commitments) at result buffer.old buffer.new }
-{
-    match commitments {
-        Commitments::None => at,
-        Commitments::One(w) => post_element(g, w, buffer, at),
-        Commitments::Two(w1, w2) => {
-            let end = post_element(g, w1, buffer, at);
-            post_element(g, w2, buffer, end)
+    fn ciphertext(&mut self, c: Ciphertext<G::Element>)
+        requires { self.old.end + 2 * G.Group.operations.width ≤ length self.old.buffer.now }
+        ensures codes { Appended G.Group.operations (ciphertext_points (meaning G.Group.point c)) self.old.end self.new.end self.old.buffer.now self.new.buffer.now }
+        ensures long { length self.new.buffer.now ≡ length self.old.buffer.now }
+    {
+        self.element(c.alpha);
+        self.element(c.beta);
+    }
+
+    fn pair(&mut self, pair: Pair<G::Element>)
+        requires { self.old.end + 4 * G.Group.operations.width ≤ length self.old.buffer.now }
+        ensures codes { Appended G.Group.operations (pair_points (pair_meaning G.Group.point pair)) self.old.end self.new.end self.old.buffer.now self.new.buffer.now }
+        ensures long { length self.new.buffer.now ≡ length self.old.buffer.now }
+    {
+        self.ciphertext(pair.first);
+        self.ciphertext(pair.second);
+    }
+
+    // The codes of the key, inputs and outputs.
+    pub(crate) fn comparison(&mut self, comparison: Comparison<G::Element>)
+        requires { self.old.end + 9 * G.Group.operations.width ≤ length self.old.buffer.now }
+        ensures codes { Appended G.Group.operations (posted (comparison_meaning G.Group.point comparison) []) self.old.end self.new.end self.old.buffer.now self.new.buffer.now }
+        ensures long { length self.new.buffer.now ≡ length self.old.buffer.now }
+    {
+        self.element(comparison.key);
+        self.pair(comparison.inputs);
+        self.pair(comparison.outputs);
+    }
+
+    pub(crate) fn commitments(&mut self, commitments: Commitments<G::Element>)
+        requires { self.old.end + 2 * G.Group.operations.width ≤ length self.old.buffer.now }
+        ensures { Appended G.Group.operations (commitment_points G.Group.point commitments) self.old.end self.new.end self.old.buffer.now self.new.buffer.now }
+    {
+        match commitments {
+            Commitments::None => {}
+            Commitments::One(w) => self.element(w),
+            Commitments::Two(w1, w2) => {
+                self.element(w1);
+                self.element(w2);
+            }
         }
     }
 }

@@ -1,22 +1,31 @@
 // Challenges drawn over posted elements. Prover and checker both draw by this one function, so that
 // they meet the same challenge.
-ghost use Rattle.std.specs.Prelude.{◌≡◌, ◌*◌, ◌≤◌, length};
+ghost use Rattle.std.specs.Prelude.{◌≡◌, ◌+◌, ◌*◌, ◌^◌, ◌<◌, ◌≤◌, true, length, nat_lt};
 ghost use Rattle.clearing.specs.Zeros.{zeros};
 ghost use Rattle.posting.specs.Commitments.{commitment_points};
 ghost use Rattle.posting.specs.Comparison.{comparison_meaning, posted};
-ghost use Rattle.posting.specs.Drawing.{DrawnOver};
+ghost use Rattle.posting.specs.Drawing.{buffer_fits, DrawnOver};
 ghost use Rattle.posting.specs.Posting.{codes};
 ghost use Rattle.source.specs.Words.{Drawn};
 
-use crate::codes::{post_commitments, post_comparison};
+use crate::codes::CodeWriter;
 use crate::comparison::Comparison;
 use clearing::Clearing;
 use group::Group;
 use refusal::{Reason, Refusal};
 use source::{Source, draw};
 
+// What draws challenges: a group for the codes, a source for the words, and the place that a refusal names.
+#[derive_where(Clone, Copy)]
+pub struct Challenger<'a, G, S> {
+    pub group: &'a G,
+    pub source: &'a S,
+    pub place: usize,
+}
+
 // What a challenge is drawn over beside the comparison: no commitment for a z, one for the
-// equivalence proof's challenge, two for the disjunctive proof's.
+// equivalence proof's challenge, two for the disjunctive proof's. It is no slice, which could hold more of them than the
+// posting buffer has room for.
 #[derive(Clone, Copy)]
 pub enum Commitments<E> {
     None,
@@ -24,49 +33,55 @@ pub enum Commitments<E> {
     Two(E, E),
 }
 
-// Draws within a buffer that fits.
-fn draw_within<G: Group, S: Source>(
-    g: &G,
-    source: &S,
-    comparison: Comparison<G::Element>,
-    commitments: Commitments<G::Element>,
-    question: u64,
-    buffer: &mut [u8],
-    place: usize,
-) -> Result<u64, Refusal>
-    requires { 11 * G.Group.operations.width ≤ length buffer.old }
-    ensures { Drawn (S.Source.words source.now) question (codes G.Group.operations (posted (comparison_meaning G.Group.point comparison) (commitment_points G.Group.point commitments))) place result }
+// Whether a posting buffer of so many bytes has room for eleven codes.
+pub fn buffer_fits<G: Group>(bytes: usize) -> bool
+    ensures { result ≡ buffer_fits G.Group.operations bytes }
 {
-    let end = post_comparison(g, comparison, buffer);
-    let end = post_commitments(g, commitments, buffer, end);
-    draw(source, question, &buffer[0..end], place)
+    bytes >= 11 * G::WIDTH
 }
 
-// The word drawn over the codes of a comparison and its commitments. The posting buffer, of eleven codes'
-// length or more, ends as zeros.
-pub fn draw_over<G: Group, S: Source>(
-    g: &G,
-    source: &S,
-    comparison: Comparison<G::Element>,
-    commitments: Commitments<G::Element>,
-    question: u64,
-    buffer: &mut [u8],
-    place: usize,
-) -> Result<u64, Refusal>
-    ensures drawn { DrawnOver G.Group.operations (S.Source.words source.now) (comparison_meaning G.Group.point comparison) (commitment_points G.Group.point commitments) question (length buffer.old) place result }
-    ensures cleared { buffer.new ≡ zeros 0 buffer.old }
-{
-    let buffer = Clearing { places: buffer };
-    if buffer.places.len() < 11 * g.code_width() {
-        return Err(Reason::UnfitLength.at(place));
+impl<G: Group, S: Source> Challenger<'_, G, S> {
+    // Whether the source reaches the four questions of a comparator, from `first` on.
+    pub fn reaches(&self, first: u64) -> bool
+        ensures is { result ≡ nat_lt (first + 3) (S.Source.words self.now.source.now).reach }
+        ensures numbered { result ≡ true → first + 3 < 2 ^ 64 }
+    {
+        first.saturating_add(3) < self.source.reach()
     }
-    draw_within(
-        g,
-        source,
-        comparison,
-        commitments,
-        question,
-        buffer.places,
-        place,
-    )
+
+    // Draws within a buffer that fits.
+    fn draw_within(
+        &self,
+        comparison: Comparison<G::Element>,
+        commitments: Commitments<G::Element>,
+        question: u64,
+        buffer: &mut [u8],
+    ) -> Result<u64, Refusal>
+        requires { 11 * G.Group.operations.width ≤ length buffer.old }
+        ensures { Drawn (S.Source.words self.now.source.now) question (codes G.Group.operations (posted (comparison_meaning G.Group.point comparison) (commitment_points G.Group.point commitments))) self.now.place result }
+    {
+        let mut writer = CodeWriter::new(self.group, buffer);
+        writer.comparison(comparison);
+        writer.commitments(commitments);
+        draw(self.source, question, writer.written(), self.place)
+    }
+
+    // The word drawn over the codes of a comparison and its commitments. The posting buffer, of eleven codes'
+    // length or more, ends as zeros.
+    pub fn draw_over(
+        &self,
+        comparison: Comparison<G::Element>,
+        commitments: Commitments<G::Element>,
+        question: u64,
+        buffer: &mut [u8],
+    ) -> Result<u64, Refusal>
+        ensures drawn { DrawnOver G.Group.operations (S.Source.words self.now.source.now) (comparison_meaning G.Group.point comparison) (commitment_points G.Group.point commitments) question (length buffer.old) self.now.place result }
+        ensures cleared { buffer.new ≡ zeros 0 buffer.old }
+    {
+        let buffer = Clearing { places: buffer };
+        if !buffer_fits::<G>(buffer.places.len()) {
+            return Err(Reason::UnfitLength.at(self.place));
+        }
+        self.draw_within(comparison, commitments, question, buffer.places)
+    }
 }

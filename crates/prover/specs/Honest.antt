@@ -1,5 +1,5 @@
 -- What an honest comparator makes, commits to and answers.
-use Rattle.std.specs.Prelude.{ℕ, ◌+◌, [], ◌∷◌, bit_xor}
+use Rattle.std.specs.Prelude.{ℕ, ◌+◌, List, [], ◌∷◌, bit_xor}
 use Rattle.elgamal.specs.Ciphertexts.{reencrypted}
 use Rattle.elgamal.specs.declared.Ciphertext.{Ciphertext}
 use Rattle.equivalence.specs.Equations.{folded_key, folded_quotient}
@@ -68,6 +68,10 @@ module _ {Point : Type 0} (G : Operations Point) where
   abbrev pub simulated_commitment : Comparison Point → Setting → (z answer challenge : ℕ) → Point
   simulated_commitment k setting z answer challenge =
       quotient G (power G (folded_key G k.key z) answer) (power G (folded_quotient G k.inputs.first (simulated_output k setting) z) challenge)
+
+  -- the source's word for a question over a comparison and commitments
+  abbrev pub word_over : Words → Comparison Point → List Point → ℕ → ℕ
+  word_over S k commitments question = S.word question (codes G (posted k commitments))
 
   -- both z, drawn at the questions `first` and first + 2
   abbrev pub equivalence_z : Exponents → Words → Comparison Point → ℕ → ℕ

@@ -1,3 +1,4 @@
 pub mod Secrets
 pub mod Honest
 pub mod States
+pub mod Mapping

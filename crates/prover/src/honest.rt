@@ -14,31 +14,30 @@ use clearing::Clearing;
 use group::{Exponent, Group};
 use plan::Setting;
 use posting::comparison::Pair;
+use posting::drawing::Challenger;
 use refusal::Refusal;
 use source::Source;
 
 // Makes, commits and answers, at four questions from `question` on. What it posts is taken by the check of
 // a comparator at the same draws. Words and buffer end as zeros, also where it is refused.
 pub fn prove<G: Group, S: Source>(
-    g: &G,
-    source: &S,
+    challenger: &Challenger<'_, G, S>,
     key: G::Element,
     inputs: Pair<G::Element>,
     setting: Setting,
     words: &mut [u64],
     question: u64,
     buffer: &mut [u8],
-    place: usize,
 ) -> Result<Message<G::Element, <G::Exponent as Exponent>::Posted>, Refusal>
-    ensures outcome { Outcome (unless (length words.old == 6) UnfitLength (unready G.Group.operations (S.Source.words source.now) question (length buffer.old))) place
-        (λ m. message_meaning G.Group.point G.Exponent.Exponent.number m ≡ honest_message G.Group.operations G.Exponent.Exponent.exponents (S.Source.words source.now) (G.Group.point key) (pair_meaning G.Group.point inputs) setting (secrets_of G.Exponent.Exponent.exponents words.old) question) result }
-    ensures taken { IfOk result (λ m. Taken G.Group.operations G.Exponent.Exponent.exponents (S.Source.words source.now) (G.Group.point key) (pair_meaning G.Group.point inputs) (message_meaning G.Group.point G.Exponent.Exponent.number m) question) }
+    ensures outcome { Outcome (unless (length words.old == 6) UnfitLength (unready G.Group.operations (S.Source.words challenger.now.source.now) question (length buffer.old))) challenger.now.place
+        (λ m. message_meaning G.Group.point G.Exponent.Exponent.number m ≡ honest_message G.Group.operations G.Exponent.Exponent.exponents (S.Source.words challenger.now.source.now) (G.Group.point key) (pair_meaning G.Group.point inputs) setting (secrets_of G.Exponent.Exponent.exponents words.old) question) result }
+    ensures taken { IfOk result (λ m. Taken G.Group.operations G.Exponent.Exponent.exponents (S.Source.words challenger.now.source.now) (G.Group.point key) (pair_meaning G.Group.point inputs) (message_meaning G.Group.point G.Exponent.Exponent.number m) question) }
     ensures words_cleared { words.new ≡ zeros 0 words.old }
     ensures buffer_cleared { buffer.new ≡ zeros 0 buffer.old }
 {
     let buffer = Clearing { places: buffer };
-    let secrets = read_secrets::<G::Exponent>(words, place)?;
-    let made = make_outputs(g, key, inputs, setting, secrets);
-    let committed = commit(g, source, made, question, buffer.places, place)?;
-    answer(g, source, committed, buffer.places, place)
+    let secrets = read_secrets::<G::Exponent>(words, challenger.place)?;
+    let made = make_outputs(challenger.group, key, inputs, setting, secrets);
+    let committed = commit(challenger, made, question, buffer.places)?;
+    answer(challenger, committed, buffer.places)
 }

@@ -1,4 +1,7 @@
 // The states of an honest comparator: outputs made, committed, answered.
+ghost use Rattle.std.specs.Prelude.{MatchResult};
+ghost use Rattle.prover.specs.Mapping.{MessageMapped, MessageUnmapped};
+
 use crate::secrets::Secrets;
 use equivalence::proofs::Proofs;
 use plan::Setting;
@@ -27,4 +30,18 @@ pub struct Committed<E, X> {
 pub struct Message<E, N> {
     pub outputs: Pair<E>,
     pub proofs: Proofs<E, N>,
+}
+
+impl<E: Drop, N: Drop> Message<E, N> {
+    // The message whose elements a step makes of these, or what the step fails with.
+    pub fn try_map<T: Drop, R, F: Fn(E) -> Result<T, R>>(self, step: &F) -> Result<Message<T, N>, R>
+        requires { F.IsAlwaysCallable step.now }
+        ensures { MatchResult result (MessageMapped (F.post step.now) self) (MessageUnmapped (F.post step.now) self) }
+    {
+        let Message { outputs, proofs } = self;
+        Ok(Message {
+            outputs: outputs.try_map(step)?,
+            proofs: proofs.try_map(step)?,
+        })
+    }
 }

@@ -3,14 +3,15 @@
 
 mod sealing;
 
+use kinds::GroupKind;
 use modular::modulo23::RESIDUES_MODULO_23;
 use polynomial::Polynomials;
 use refusal::{Reason, Refusal};
 use sealing::{Sealing, seal};
 use std::fmt;
-use std::str::SplitWhitespace;
+use std::str::{FromStr, SplitWhitespace};
 
-// The numbers of a line: the group's, and what is to be sealed.
+// A line: the group's number, and what is to be sealed.
 #[derive(Clone, Copy)]
 struct Line {
     group: u32,
@@ -19,32 +20,35 @@ struct Line {
 
 // The next word as a number of 32 bits.
 fn next_number(words: &mut SplitWhitespace<'_>) -> Option<u32> {
-    match words.next() {
-        Some(word) => word.parse::<u32>().ok(),
-        None => None,
-    }
+    words.next()?.parse::<u32>().ok()
 }
 
-// The five numbers of a line; a line that has not just these is short of its fields.
-fn read_line(text: &str) -> Option<Line> {
+// The five numbers of a line; none where it has not just these.
+fn numbers_of(text: &str) -> Option<[u32; 5]> {
     let mut words = text.split_whitespace();
-    let group = next_number(&mut words)?;
-    let private = next_number(&mut words)?;
-    let message = next_number(&mut words)?;
-    let gamma = next_number(&mut words)?;
-    let r = next_number(&mut words)?;
-    if words.next().is_some() {
-        return None;
+    let mut numbers = [0; 5];
+    for number in &mut numbers {
+        *number = next_number(&mut words)?;
     }
-    Some(Line {
-        group,
-        sealing: Sealing {
-            private,
-            message,
-            gamma,
-            r,
-        },
-    })
+    words.next().is_none().then_some(numbers)
+}
+
+// A line that has not just five numbers is short of its fields.
+impl FromStr for Line {
+    type Err = Reason;
+
+    fn from_str(text: &str) -> Result<Line, Reason> {
+        let [group, private, message, gamma, r] = numbers_of(text).ok_or(Reason::ShortRecord)?;
+        Ok(Line {
+            group,
+            sealing: Sealing {
+                private,
+                message,
+                gamma,
+                r,
+            },
+        })
+    }
 }
 
 // Prints what was sealed, or the refusal.
@@ -61,13 +65,14 @@ fn print<D: fmt::Display + Drop>(
 
 // Answers one line.
 fn answer(rt: &HostRuntime, text: &str) -> anyhow::Result<()> {
-    let Some(line) = read_line(text) else {
-        return Ok(rt.println(Reason::ShortRecord.at(0))?);
+    let line = match text.parse::<Line>() {
+        Ok(line) => line,
+        Err(reason) => return Ok(rt.println(reason.at(0))?),
     };
-    match line.group {
-        1 => print(rt, seal(&RESIDUES_MODULO_23, line.sealing)),
-        2 => print(rt, seal(&Polynomials, line.sealing)),
-        _ => Ok(rt.println(Reason::UnknownGroupOrPlan.at(0))?),
+    match GroupKind::try_from(line.group) {
+        Ok(GroupKind::ResiduesModulo23) => print(rt, seal(&RESIDUES_MODULO_23, line.sealing)),
+        Ok(GroupKind::BinaryPolynomials) => print(rt, seal(&Polynomials, line.sealing)),
+        Err(reason) => Ok(rt.println(reason.at(0))?),
     }
 }
 

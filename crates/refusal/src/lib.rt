@@ -7,7 +7,6 @@ ghost use Rattle.refusal.specs.Text.{station_text, refusal_text};
 mod failure;
 
 pub use failure::Failure;
-
 use std::error::Error;
 use std::fmt;
 

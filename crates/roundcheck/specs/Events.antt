@@ -1,14 +1,7 @@
 -- Records as calls on a board. A record has numbers; those of elements are codes.
 use Rattle.std.specs.Prelude.{◌≡◌, ℕ, Some, None, Option}
-use Rattle.elgamal.specs.Ciphertexts.{meaning}
-use Rattle.elgamal.specs.declared.Ciphertext.{Ciphertext}
-use Rattle.equivalence.specs.Judgement.{branch_meaning, proofs_meaning}
-use Rattle.equivalence.specs.declared.proofs.Branch.{Branch}
-use Rattle.equivalence.specs.declared.proofs.Proofs.{Proofs}
 use Rattle.group.specs.Codes.{four_bytes}
 use Rattle.group.specs.Operations.{Operations}
-use Rattle.posting.specs.Comparison.{pair_meaning}
-use Rattle.posting.specs.declared.comparison.Pair.{Pair}
 use Rattle.prover.specs.declared.states.Message.{Message}
 use Rattle.refusal.specs.Table.{refused_at}
 use Rattle.refusal.specs.declared.Reason.TheVariants.{NoElement}
@@ -44,21 +37,8 @@ call_of expel = Some Expel
 
 -- Points that were read from codes: each has the code that the number writes in four bytes. The numbers of exponents are taken as they are posted.
 module _ {Point : Type 0} (G : Operations Point) (number : ℕ → ℕ) where
-  abbrev pub BranchRead : Branch ℕ ℕ → Branch Point ℕ → Type 0
-  BranchRead codes b = branch_meaning G.code (λ n. n) b ≡ branch_meaning four_bytes number codes
-
-  abbrev pub ProofsRead : Proofs ℕ ℕ → Proofs Point ℕ → Type 0
-  ProofsRead codes p = proofs_meaning G.code (λ n. n) p ≡ proofs_meaning four_bytes number codes
-
   abbrev pub EventRead : Event ℕ ℕ → Event Point ℕ → Type 0
   EventRead codes e = event_meaning G.code (λ n. n) e ≡ event_meaning four_bytes number codes
-
-module _ {Point : Type 0} (G : Operations Point) where
-  abbrev pub CiphertextRead : Ciphertext ℕ → Ciphertext Point → Type 0
-  CiphertextRead codes c = meaning G.code c ≡ meaning four_bytes codes
-
-  abbrev pub PairRead : Pair ℕ → Pair Point → Type 0
-  PairRead codes c = pair_meaning G.code c ≡ pair_meaning four_bytes codes
 
 -- nothing can be read: a code is no element's
 abbrev pub Unread : {X : Type 0} → (X → Type 0) → ℕ → Refusal → Type 0

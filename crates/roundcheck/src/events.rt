@@ -1,12 +1,9 @@
 // The call on a board that a record says, with the codes of elements first and then with the elements. These are
 // functions and no `From`: what they convert from and to are types of other crates.
 ghost use Rattle.std.specs.Prelude.{◌≡◌, ℕ, MatchResult};
-ghost use Rattle.elgamal.specs.Ciphertexts.{meaning};
-ghost use Rattle.equivalence.specs.Judgement.{branch_meaning, proofs_meaning};
-ghost use Rattle.posting.specs.Comparison.{pair_meaning};
 ghost use Rattle.board.specs.Calls.{event_meaning};
 ghost use Rattle.roundfile.specs.Records.{content};
-ghost use Rattle.roundcheck.specs.Events.{message_of, call_of, CiphertextRead, PairRead, BranchRead, ProofsRead, EventRead, Unread};
+ghost use Rattle.roundcheck.specs.Events.{message_of, call_of, EventRead, Unread};
 
 use board::events::Event;
 use elgamal::Ciphertext;
@@ -82,71 +79,6 @@ pub(crate) fn call_of(held: Record) -> Option<Event<u32, u32>>
     }
 }
 
-fn read_ciphertext<G: Group>(
-    group: &G,
-    codes: Ciphertext<u32>,
-    place: usize,
-) -> Result<Ciphertext<G::Element>, Refusal>
-    ensures { MatchResult result (λ c. CiphertextRead G.Group.operations codes (meaning G.Group.point c)) (Unread (CiphertextRead G.Group.operations codes) place) }
-{
-    let alpha = read_number(group, codes.alpha, place)?;
-    let beta = read_number(group, codes.beta, place)?;
-    Ok(Ciphertext { alpha, beta })
-}
-
-fn read_pair<G: Group>(
-    group: &G,
-    codes: Pair<u32>,
-    place: usize,
-) -> Result<Pair<G::Element>, Refusal>
-    ensures { MatchResult result (λ c. PairRead G.Group.operations codes (pair_meaning G.Group.point c)) (Unread (PairRead G.Group.operations codes) place) }
-{
-    let first = read_ciphertext(group, codes.first, place)?;
-    let second = read_ciphertext(group, codes.second, place)?;
-    Ok(Pair { first, second })
-}
-
-fn read_branch<G: Group>(
-    group: &G,
-    codes: Branch<u32, u32>,
-    place: usize,
-) -> Result<Branch<G::Element, u32>, Refusal>
-where
-    G::Exponent: Exponent<Posted = u32>,
-    ensures { MatchResult result (λ b. BranchRead G.Group.operations G.Exponent.Exponent.number codes (branch_meaning G.Group.point G.Exponent.Exponent.number b)) (Unread (BranchRead G.Group.operations G.Exponent.Exponent.number codes) place) }
-{
-    let Branch {
-        commitment,
-        challenge,
-        answer,
-    } = codes;
-    let commitment = read_number(group, commitment, place)?;
-    Ok(Branch {
-        commitment,
-        challenge,
-        answer,
-    })
-}
-
-fn read_proofs<G: Group>(
-    group: &G,
-    codes: Proofs<u32, u32>,
-    place: usize,
-) -> Result<Proofs<G::Element, u32>, Refusal>
-where
-    G::Exponent: Exponent<Posted = u32>,
-    ensures { MatchResult result (λ p. ProofsRead G.Group.operations G.Exponent.Exponent.number codes (proofs_meaning G.Group.point G.Exponent.Exponent.number p)) (Unread (ProofsRead G.Group.operations G.Exponent.Exponent.number codes) place) }
-{
-    let EquivalenceProof { commitment, answer } = codes.equivalence;
-    let commitment = read_number(group, commitment, place)?;
-    let first = read_branch(group, codes.disjunction.first, place)?;
-    let second = read_branch(group, codes.disjunction.second, place)?;
-    Ok(Proofs {
-        equivalence: EquivalenceProof { commitment, answer },
-        disjunction: DisjunctiveProof { first, second },
-    })
-}
-
 // The call with the elements that its codes name; refused where one names none.
 pub(crate) fn read_event<G: Group>(
     group: &G,
@@ -157,14 +89,11 @@ where
     G::Exponent: Exponent<Posted = u32>,
     ensures { MatchResult result (λ e. EventRead G.Group.operations G.Exponent.Exponent.number codes (event_meaning G.Group.point G.Exponent.Exponent.number e)) (Unread (EventRead G.Group.operations G.Exponent.Exponent.number codes) place) }
 {
+    let read = |code: u32| read_number(group, code, place);
     match codes {
-        Event::Post(quote) => Ok(Event::Post(read_ciphertext(group, quote, place)?)),
+        Event::Post(quote) => Ok(Event::Post(quote.try_map(&read)?)),
         Event::Close => Ok(Event::Close),
-        Event::Step(message) => {
-            let outputs = read_pair(group, message.outputs, place)?;
-            let proofs = read_proofs(group, message.proofs, place)?;
-            Ok(Event::Step(Message { outputs, proofs }))
-        }
+        Event::Step(message) => Ok(Event::Step(message.try_map(&read)?)),
         Event::Expel => Ok(Event::Expel),
     }
 }

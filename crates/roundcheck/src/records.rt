@@ -99,6 +99,6 @@ where
     G::Exponent: Exponent<Posted = u32>,
     ensures { EndsBy result (Behind lines.old.items (Runs (terms G.Group.operations G.Exponent.Exponent.exponents (S.Source.words setup.now.source.now) (G.Group.point board.old.key) (P.Plan.listing setup.now.plan.now)) G.Exponent.Exponent.number (place reader.entry) (state_map (meaning G.Group.point) (view board.old))) lines.new.items) }
 {
-    let mut buffer = vec![in heap; 0u8; 11 * setup.group.code_width()]?;
+    let mut buffer = vec![in heap; 0u8; 11 * G::WIDTH]?;
     run_records(board, setup, reader, buffer.as_mut_slice(), lines)
 }

@@ -5,11 +5,10 @@ ghost use Rattle.std.specs.List.{range_with_len};
 ghost use Rattle.plan.specs.Plans.{Brings};
 
 use anyhow::anyhow;
-use butterfly::Butterfly;
-use chain::Chain;
+use kinds::{KnownPlan, PlanKind};
 use plan::{Plan, Setting, run_plan};
-use refusal::{Reason, Refusal};
-use std::alloc::{AllocError, AllocFailed, Global};
+use refusal::{Failure, Reason, Refusal};
+use std::alloc::{AllocError, Global};
 use std::fmt;
 
 // A route and what it brings about.
@@ -23,7 +22,7 @@ impl fmt::Display for Answer {
     fn fmt<W: fmt::Write>(&self, f: &mut fmt::Formatter<W>) -> fmt::Result {
         write!(f, "settings")?;
         for setting in self.settings.as_slice() {
-            let number = setting.number();
+            let number = u8::from(*setting);
             write!(f, " {number}")?;
         }
         write!(f, " brings")?;
@@ -34,44 +33,15 @@ impl fmt::Display for Answer {
     }
 }
 
-// Why a line has no route.
-#[derive(Drop)]
-enum Fault {
-    Refused(Refusal),
-    Memory,
-}
-
-impl From<Refusal> for Fault {
-    fn from(refusal: Refusal) -> Fault {
-        Fault::Refused(refusal)
-    }
-}
-
-impl From<AllocError> for Fault {
-    fn from(_: AllocError) -> Fault {
-        Fault::Memory
-    }
-}
-
-impl<T: Drop> From<AllocFailed<T>> for Fault {
-    fn from(_: AllocFailed<T>) -> Fault {
-        Fault::Memory
-    }
-}
-
 // The numbers of the wires, in order.
 fn wires_in_order(heap: Global, count: usize) -> Result<Vec<usize>, AllocError>
     ensures { IfOk result (λ v. v.items ≡ range_with_len 0 count) }
 {
-    let mut wires = Vec::new(heap);
-    for wire in 0..count {
-        wires.push(wire)?;
-    }
-    Ok(wires)
+    (0..count).collect(heap)
 }
 
 // Routes the entries on a plan, and runs the plan on the numbers of the wires.
-fn route_on<P: Plan>(heap: Global, plan: &P, entries: &[usize]) -> Result<Answer, Fault>
+fn route_on<P: Plan>(heap: Global, plan: &P, entries: &[usize]) -> Result<Answer, Failure>
     ensures { IfOk result (λ a. Brings (P.Plan.width plan.now) (P.Plan.listing plan.now) a.settings.items entries.now × (a.brought.items ≡ entries.now)) }
 {
     let mut settings = vec![in heap; Setting::Straight; plan.count()]?;
@@ -81,30 +51,27 @@ fn route_on<P: Plan>(heap: Global, plan: &P, entries: &[usize]) -> Result<Answer
     Ok(Answer { settings, brought })
 }
 
+// The kind of plan of this number.
+fn kind_of(number: usize) -> Result<PlanKind, Refusal> {
+    u32::try_from(number)
+        .ok()
+        .and_then(|number| PlanKind::try_from(number).ok())
+        .ok_or(Reason::UnknownGroupOrPlan.at(0))
+}
+
 // A line: the plan's number, the number of wires, the entries.
-fn route_line(heap: Global, numbers: &[usize]) -> Result<Answer, Fault> {
-    let [plan, wires, entries @ ..] = numbers else {
-        return Err(Fault::Refused(Reason::ShortRecord.at(0)));
+fn route_line(heap: Global, numbers: &[usize]) -> Result<Answer, Failure> {
+    let [number, wires, entries @ ..] = numbers else {
+        return Err(Failure::from(Reason::ShortRecord.at(0)));
     };
-    match *plan {
-        1 => {
-            let chain = Chain::new(*wires)?;
-            route_on(heap, &chain, entries)
-        }
-        2 => {
-            let butterfly = Butterfly::new(*wires)?;
-            route_on(heap, &butterfly, entries)
-        }
-        _ => Err(Fault::Refused(Reason::UnknownGroupOrPlan.at(0))),
-    }
+    let plan = KnownPlan::new(kind_of(*number)?, *wires)?;
+    route_on(heap, &plan, entries)
 }
 
 fn numbers_of(heap: Global, line: &str) -> anyhow::Result<Vec<usize>> {
-    let mut numbers = Vec::new(heap);
-    for word in line.split_whitespace() {
-        numbers.push(word.parse::<usize>()?)?;
-    }
-    Ok(numbers)
+    line.split_whitespace()
+        .map(|word| Ok(word.parse::<usize>()?))
+        .try_collect(heap)
 }
 
 fn run(rt: &HostRuntime) -> anyhow::Result<()> {
@@ -112,8 +79,8 @@ fn run(rt: &HostRuntime) -> anyhow::Result<()> {
         let numbers = numbers_of(rt.alloc(), line?.as_str())?;
         match route_line(rt.alloc(), numbers.as_slice()) {
             Ok(answer) => rt.println(answer)?,
-            Err(Fault::Refused(refusal)) => rt.println(refusal)?,
-            Err(Fault::Memory) => return Err(anyhow!("no memory")),
+            Err(Failure::Refused(refusal)) => rt.println(refusal)?,
+            Err(Failure::NoMemory(_)) => return Err(anyhow!("no memory")),
         }
     }
     Ok(())

@@ -29,8 +29,8 @@ fn listed<P: Plan>(plan: &P, mut sum: usize) -> usize {
 fn shuffled(turn: usize) -> [usize; 64] {
     let step = 2 * (turn % 32) + 1;
     let mut permutation = [0; 64];
-    for i in 0..64usize {
-        permutation[i] = (step * i + turn % 64) % 64;
+    for (wire, entry) in permutation.iter_mut().enumerate() {
+        *entry = (step * wire + turn % 64) % 64;
     }
     permutation
 }
@@ -41,22 +41,19 @@ fn routed<P: Plan>(plan: &P, turn: usize, mut sum: usize) -> usize {
     let mut settings = [Setting::Straight; 321];
     if plan.route(&permutation, &mut settings).is_ok() {
         for setting in &settings {
-            sum = mixed(sum, usize::from(setting.number()));
+            sum = mixed(sum, usize::from(u8::from(*setting)));
         }
     }
     sum
 }
 
-// So many turns of listing or of routing.
-fn turned<P: Plan>(plan: &P, work: &str, turns: usize) -> usize {
+// So many turns of one kind of work, each beginning with the sum of the turns before it.
+fn turned<F: Fn(usize, usize) -> usize>(turns: usize, work: F) -> usize
+    requires { F.IsAlwaysCallable work }
+{
     let mut sum = 0;
-    let listing = work == "list";
     for turn in 0..turns {
-        sum = if listing {
-            listed(plan, sum)
-        } else {
-            routed(plan, turn, sum)
-        };
+        sum = work(turn, sum);
     }
     sum
 }
@@ -71,7 +68,11 @@ fn run(rt: &HostRuntime) -> anyhow::Result<()> {
             return Err(anyhow!("no work"));
         };
         let turns = turns.parse::<usize>()?;
-        let sum = turned(&plan, work, turns);
+        let sum = if work == "list" {
+            turned(turns, |_, sum| listed(&plan, sum))
+        } else {
+            turned(turns, |turn, sum| routed(&plan, turn, sum))
+        };
         println!(rt; "{work} {turns} {sum}")?;
     }
     Ok(())

@@ -122,7 +122,7 @@ fn serve_lists<G: Group, P: Plan>(
     };
     let mut settings = vec![in heap; Setting::Straight; count]?;
     let mut words = words_from(heap, round.seed.wrapping_add(1), 6 * count)?;
-    let mut buffer = vec![in heap; 0u8; 11 * group.code_width()]?;
+    let mut buffer = vec![in heap; 0u8; 11 * G::WIDTH]?;
     let mut board = open(group, plan, key, 1, wires, start)?;
     post_all(&mut board, &setup, key, round.seed)?;
     serve(

@@ -29,10 +29,9 @@ pub fn draw<S: Source>(
 ) -> Result<u64, Refusal>
     ensures { Drawn (S.Source.words source.now) question posted.now place result }
 {
-    match source.word(question, posted) {
-        Some(word) => Ok(word),
-        None => Err(Reason::BeyondReach.at(place)),
-    }
+    source
+        .word(question, posted)
+        .ok_or(Reason::BeyondReach.at(place))
 }
 
 // A list of words, read by number; the posted bytes are ignored.
@@ -49,11 +48,7 @@ impl Source for Tape<'_> {
     }
 
     fn word(&self, question: u64, posted: &[u8]) -> Option<u64> {
-        let at = question as usize;
-        if at >= self.words.len() {
-            return None;
-        }
-        Some(self.words[at])
+        self.words.get(question as usize).copied()
     }
 }
 

@@ -1,5 +1,6 @@
 -- Draws that repeat, along a list.
-use Rattle.std.proofs.Common.{◌≡◌, ℕ, ◌+◌, ◌<◌, ◌≤◌, true, false, eqb, List, [], ◌∷◌, ◌++◌, map, length, get_or, take, drop, Some, None, sym, refl, ap, ◌∙◌, ap₂, add-one, arith, drop_of_length-le, drop-cons, take-suc}
+use Rattle.std.proofs.Common.{◌≡◌, ℕ, ◌+◌, ◌<◌, ◌≤◌, Bool, true, false, eqb, ◌||◌, List, [], ◌∷◌, ◌++◌, map, length, get_or, take, drop, Some, None, sym, refl, ap, ◌∙◌, ap₂, add-one, arith, drop_of_length-le, drop-cons, take-suc}
+use Rattle.std.specs.List.{list_any}
 use Rattle.refusal.specs.Table.{refused_at}
 use Rattle.refusal.specs.declared.Reason.TheVariants.{EqualDraws}
 use Rattle.witness.specs.Refusals.{draws, stands, repeated}
@@ -23,17 +24,18 @@ module _ {N T : Type 0} (number : N → ℕ) where
   draws_map f e [] = refl
   draws_map f e (w ∷ ws) = ap₂ (λ z l. z ∷ l) (e w) (draws_map f e ws)
 
+  -- whether one of them draws z
+  pub any_stands : (z : ℕ) (ws : List (Witness N T)) → list_any (λ w. eqb z (number w.z)) ws ≡ stands z (draws number ws)
+  unfolding stands
+  any_stands z [] = refl
+  any_stands z (w ∷ ws) = go (eqb z (number w.z)) (any_stands z ws)
+    where
+      go : (b : Bool) → list_any (λ w. eqb z (number w.z)) ws ≡ stands z (draws number ws)
+          → (b || list_any (λ w. eqb z (number w.z)) ws) ≡ elim b [ true ↦ true | false ↦ stands z (draws number ws) ]
+      go true e = refl
+      go false e = e
+
   module _ (ws : List (Witness N T)) (i : ℕ) (w : Witness N T) (is : w ≡ get_or ws i w) (h : i < length ws) where
-    here : (z : ℕ) → stands z (draws number (drop i ws)) ≡ elim (eqb z (number w.z)) [ true ↦ true | false ↦ stands z (draws number (drop (i + 1) ws)) ]
-    unfolding stands
-    here z = ap (λ l. stands z (draws number l)) (from_here ws i w is h)
-
-    pub stands_here : (z : ℕ) → eqb z (number w.z) ≡ true → stands z (draws number (drop i ws)) ≡ true
-    stands_here z e = here z ∙ ap (λ b. elim b [ true ↦ true | false ↦ stands z (draws number (drop (i + 1) ws)) ]) e
-
-    pub stands_after : (z : ℕ) → eqb z (number w.z) ≡ false → stands z (draws number (drop i ws)) ≡ stands z (draws number (drop (i + 1) ws))
-    stands_after z e = here z ∙ ap (λ b. elim b [ true ↦ true | false ↦ stands z (draws number (drop (i + 1) ws)) ]) e
-
     step : (place : ℕ) (earlier : List ℕ) → repeated place earlier (draws number (drop i ws))
         ≡ elim (stands (number w.z) earlier) [ true ↦ Some (refused_at EqualDraws place) | false ↦ repeated (place + 1) (earlier ++ (number w.z ∷ [])) (draws number (drop (i + 1) ws)) ]
     unfolding repeated
@@ -55,10 +57,6 @@ module _ {N T : Type 0} (number : N → ℕ) where
         (sym (ap (draws number) (to_here ws i w is h) ∙ draws_append (take i ws) (w ∷ [])))
 
   module _ (ws : List (Witness N T)) (i : ℕ) (h : length ws ≤ i) where
-    pub stands_none : (z : ℕ) → stands z (draws number (drop i ws)) ≡ false
-    unfolding stands
-    stands_none z = ap (λ l. stands z (draws number l)) (drop_of_length-le ws {i = i} h)
-
     pub repeated_none : (place : ℕ) (earlier : List ℕ) → repeated place earlier (draws number (drop i ws)) ≡ None
     unfolding repeated
     repeated_none place earlier = ap (λ l. repeated place earlier (draws number l)) (drop_of_length-le ws {i = i} h)

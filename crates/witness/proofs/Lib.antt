@@ -1,3 +1,4 @@
+mod Chains
 mod Draws
 pub mod Gathering
-mod Judging
+pub mod Judging

@@ -1,5 +1,4 @@
 pub mod Witnesses
 pub mod Refusals
 pub mod Samples
-pub mod Gathering
 pub mod Examined

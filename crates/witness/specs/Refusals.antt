@@ -13,6 +13,7 @@ use Rattle.refusal.specs.declared.Reason.TheVariants.{UnfitWitnessCount, UnfitWi
 use Rattle.refusal.specs.declared.Refusal.{Refusal}
 use Rattle.witness.specs.Witnesses.{EquivalenceWitness, DisjunctiveWitness}
 use Rattle.witness.specs.declared.posted.Answer.{Answer}
+use Rattle.witness.specs.declared.posted.Challenges.{Challenges}
 use Rattle.witness.specs.declared.posted.Disjunction.{Disjunction}
 use Rattle.witness.specs.declared.posted.Transcript.{Transcript}
 use Rattle.witness.specs.declared.posted.Witness.{Witness}
@@ -57,6 +58,13 @@ unfoldable pub judgement : (fits : Bool) (first second : ℕ) (accepted : Bool) 
 judgement fits first second accepted =
     unless fits UnfitWitnessNumber (unless (not (first == second)) EqualChallenges (unless accepted UnacceptedAnswer None))
 
+-- What one of the two proofs asks of what was answered: whether its numbers are fit, the challenges of both answers,
+-- and whether both are accepted at a z.
+pub record Proof (Answered : Type 0) : Type 0 where
+  pub fits : Answered → Bool
+  pub challenges : Answered → Challenges
+  pub accepted : (z : ℕ) → Answered → Bool
+
 -- Numbers: an exponent is below the order, a challenge has no more bits than it may.
 module _ (E : Exponents) where
   abbrev pub challenge_fits : ℕ → Bool
@@ -68,16 +76,30 @@ module _ (E : Exponents) where
   abbrev pub transcript_fits : {Point : Type 0} → Transcript Point ℕ → Bool
   transcript_fits t = both (answer_fits t.first) (answer_fits t.second)
 
-  abbrev pub equivalence_fits : {Point : Type 0} → EquivalenceWitness Point → Bool
-  equivalence_fits w = both (nat_lt w.z E.order) (transcript_fits w.answered)
-
   abbrev pub disjunction_fits : {Point : Type 0} → Disjunction Point ℕ → Bool
   disjunction_fits d =
       both (both (challenge_fits d.challenges.first) (challenge_fits d.challenges.second))
       (both (transcript_fits d.straight) (transcript_fits d.swapped))
 
-  abbrev pub disjunctive_fits : {Point : Type 0} → DisjunctiveWitness Point → Bool
-  disjunctive_fits w = both (nat_lt w.z E.order) (disjunction_fits w.answered)
+  -- the numbers of a witness: its z, and those that were answered
+  abbrev pub witness_fits : {Answered : Type 0} → Proof Answered → Witness ℕ Answered → Bool
+  witness_fits proof w = both (nat_lt w.z E.order) (proof.fits w.answered)
+
+  -- why a witness is refused
+  abbrev pub judge : {Answered : Type 0} → Proof Answered → Witness ℕ Answered → Option Reason
+  judge proof w = judgement (witness_fits proof w) (proof.challenges w.answered).first (proof.challenges w.answered).second (proof.accepted w.z w.answered)
+
+  -- what a witness shows, where its numbers are fit
+  abbrev pub shown_where_fit : {Answered Shown : Type 0} → Proof Answered → (Witness ℕ Answered → Shown) → Witness ℕ Answered → Option Shown
+  shown_where_fit proof shown w = elim (witness_fits proof w) [ true ↦ Some (shown w) | false ↦ None ]
+
+  -- the first refusal among the witnesses of one proof, from `place` on: no z twice, then each witness in order
+  abbrev pub refusal_among : {Answered : Type 0} → Proof Answered → (place : ℕ) → List (Witness ℕ Answered) → Option Refusal
+  refusal_among proof place ws = or_else (repeated place [] (draws (λ n. n) ws)) (judged (judge proof) place ws)
+
+-- the challenges of both answers
+abbrev pub transcript_challenges : {Point Number : Type 0} → Transcript Point Number → Challenges
+transcript_challenges t = record { first = t.first.challenge; second = t.second.challenge }
 
 -- the parts of both challenges on the branches add up to them, bit by bit
 abbrev pub splits : {Point Number : Type 0} → Disjunction Point Number → Bool
@@ -104,22 +126,29 @@ module _ {Point : Type 0} (G : Operations Point) where
       (both (transcript_accepted k.key k.inputs.first k.outputs.first z d.straight)
       (transcript_accepted k.key k.inputs.first k.outputs.second z d.swapped))
 
-  -- why a witness is refused
+  -- the two proofs about a comparison
+  abbrev pub equivalence_proof : Exponents → Comparison Point → Proof (Transcript Point ℕ)
+  equivalence_proof E k = record { fits = transcript_fits E; challenges = transcript_challenges; accepted = product_accepted k }
+
+  abbrev pub disjunctive_proof : Exponents → Comparison Point → Proof (Disjunction Point ℕ)
+  disjunctive_proof E k = record { fits = disjunction_fits E; challenges = λ d. d.challenges; accepted = disjunction_accepted k }
+
+  -- why a witness of each is refused
   abbrev pub judge_equivalence : Exponents → Comparison Point → EquivalenceWitness Point → Option Reason
-  judge_equivalence E k w = judgement (equivalence_fits E w) w.answered.first.challenge w.answered.second.challenge (product_accepted k w.z w.answered)
+  judge_equivalence E k = judge E (equivalence_proof E k)
 
   abbrev pub judge_disjunctive : Exponents → Comparison Point → DisjunctiveWitness Point → Option Reason
-  judge_disjunctive E k w = judgement (disjunctive_fits E w) w.answered.challenges.first w.answered.challenges.second (disjunction_accepted k w.z w.answered)
+  judge_disjunctive E k = judge E (disjunctive_proof E k)
 
-  -- the first refusal among the witnesses of one proof: no z twice, then each witness in order
+  -- the first refusal among the witnesses of each, at the places 0 to 2 and 3 to 7
   unfoldable pub equivalence_refusal : Exponents → Comparison Point → List (EquivalenceWitness Point) → Option Refusal
-  equivalence_refusal E k W = or_else (repeated 0 [] (draws (λ n. n) W)) (judged (judge_equivalence E k) 0 W)
+  equivalence_refusal E k W = refusal_among E (equivalence_proof E k) 0 W
 
   unfoldable pub disjunctive_refusal : Exponents → Comparison Point → List (DisjunctiveWitness Point) → Option Refusal
-  disjunctive_refusal E k V = or_else (repeated 3 [] (draws (λ n. n) V)) (judged (judge_disjunctive E k) 3 V)
+  disjunctive_refusal E k V = refusal_among E (disjunctive_proof E k) 3 V
 
-  -- The first refusal: there are three and five witnesses; then those of the equivalence proof, at the places
-  -- 0 to 2, and then those of the disjunctive proof, at the places 3 to 7.
+  -- The first refusal: there are three and five witnesses; then those of the equivalence proof, and then those of
+  -- the disjunctive proof.
   unfoldable pub first_refusal : Exponents → Comparison Point → List (EquivalenceWitness Point) → List (DisjunctiveWitness Point) → Option Refusal
   first_refusal E k W V =
       or_else (at_place 0 (unless (both (length W == 3) (length V == 5)) UnfitWitnessCount None))

@@ -1,5 +1,6 @@
 -- What witnesses show: at z, the exponent γ.
-use Rattle.std.specs.Prelude.{ℕ, Bool, true, false, List, [], ◌∷◌, map, length, ◌==◌, nat_le, slice_index_or}
+use Rattle.std.specs.Prelude.{ℕ, Bool, true, false, List, [], ◌∷◌, map, length, Some, None, Option, ◌==◌, nat_le, slice_index_or}
+use Rattle.std.specs.Option.{option_map}
 use Rattle.group.specs.Exponents.{Exponents, remainder, difference, product}
 use Rattle.plan.specs.declared.Setting.{Setting}
 use Rattle.plan.specs.declared.Setting.TheVariants.{Straight, Swapped}
@@ -59,6 +60,10 @@ same_setting Straight Swapped = false
 same_setting Swapped Straight = false
 same_setting Swapped Swapped = true
 
+-- the sample, where it is of this branch
+abbrev pub sample_on : {X : Type 0} → Setting → Drawn X → Option (Sample X)
+sample_on s d = elim (same_setting s d.setting) [ true ↦ Some d.sample | false ↦ None ]
+
 -- the samples of a branch, in order
 abbrev pub on_branch : Setting → List (Drawn ℕ) → List (Sample ℕ)
 on_branch s [] = []
@@ -74,6 +79,17 @@ nothing = record { z = 0; gamma = 0 }
 
 abbrev pub first_three : List (Sample ℕ) → Samples ℕ
 first_three l = record { first = slice_index_or l 0 nothing; second = slice_index_or l 1 nothing; third = slice_index_or l 2 nothing }
+
+-- the same, only where there are three
+abbrev pub three_of : List (Sample ℕ) → Option (Samples ℕ)
+three_of [] = None
+three_of (a ∷ []) = None
+three_of (a ∷ (b ∷ [])) = None
+three_of (a ∷ (b ∷ (c ∷ l))) = Some (record { first = a; second = b; third = c })
+
+-- a branch with its first three samples, where it has three
+abbrev pub three_on : Setting → List (Drawn ℕ) → Option (Branch ℕ)
+three_on s ds = option_map (λ t. record { setting = s; samples = t }) (three_of (on_branch s ds))
 
 -- the branch that is used, with its first three samples
 unfoldable pub chosen : List (Drawn ℕ) → Branch ℕ

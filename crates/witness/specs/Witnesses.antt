@@ -15,6 +15,10 @@ DisjunctiveWitness Point = Witness ℕ (Disjunction Point ℕ)
 abbrev pub answer_meaning : {Number : Type 0} → (Number → ℕ) → Answer Number → Answer ℕ
 answer_meaning number a = record { challenge = a.challenge; exponent = number a.exponent }
 
+-- a witness, by what its number and what was answered mean
+abbrev pub witness_meaning : {Number Answered Meaning : Type 0} → (Number → ℕ) → (Answered → Meaning) → Witness Number Answered → Witness ℕ Meaning
+witness_meaning number meaning w = record { z = number w.z; answered = meaning w.answered }
+
 module _ {Element Point Number : Type 0} (point : Element → Point) (number : Number → ℕ) where
   abbrev pub transcript_meaning : Transcript Element Number → Transcript Point ℕ
   transcript_meaning t = record { commitment = point t.commitment; first = answer_meaning number t.first; second = answer_meaning number t.second }
@@ -23,7 +27,7 @@ module _ {Element Point Number : Type 0} (point : Element → Point) (number : N
   disjunction_meaning d = record { challenges = d.challenges; straight = transcript_meaning d.straight; swapped = transcript_meaning d.swapped }
 
   abbrev pub equivalence_meaning : Witness Number (Transcript Element Number) → EquivalenceWitness Point
-  equivalence_meaning w = record { z = number w.z; answered = transcript_meaning w.answered }
+  equivalence_meaning w = witness_meaning number transcript_meaning w
 
   abbrev pub disjunctive_meaning : Witness Number (Disjunction Element Number) → DisjunctiveWitness Point
-  disjunctive_meaning w = record { z = number w.z; answered = disjunction_meaning w.answered }
+  disjunctive_meaning w = witness_meaning number disjunction_meaning w

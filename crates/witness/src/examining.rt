@@ -1,249 +1,150 @@
 // Examining witnesses: unfit numbers, equal draws, equal challenges, answers that are not accepted.
-ghost use Rattle.std.specs.Prelude.{◌≡◌, map, length, Some, None, MatchResult};
-ghost use Rattle.elgamal.specs.Ciphertexts.{meaning};
+ghost use Rattle.std.specs.Prelude.{◌≡◌, ◌+◌, ◌≤◌, true, false, map, length, Some, None, MatchOption, MatchResult};
+ghost use Rattle.std.specs.List.{filter_map};
+ghost use Rattle.std.specs.Option.{option_map, option_or};
+ghost use Rattle.plan.specs.declared.Setting.TheVariants.{Straight, Swapped};
 ghost use Rattle.posting.specs.Comparison.{comparison_meaning};
-ghost use Rattle.witness.specs.Witnesses.{transcript_meaning, disjunction_meaning, equivalence_meaning, disjunctive_meaning};
-ghost use Rattle.witness.specs.Refusals.{transcript_accepted, product_accepted, splits, disjunction_accepted, judge_equivalence, judge_disjunctive, at_place, equivalence_refusal, disjunctive_refusal};
-ghost use Rattle.witness.specs.Samples.{sample_meaning, drawn_meaning, samples_meaning, branch_meaning, equivalence_sample, drawn, first_three, chosen};
+ghost use Rattle.witness.specs.Witnesses.{witness_meaning, equivalence_meaning, disjunctive_meaning};
+ghost use Rattle.witness.specs.Refusals.{witness_fits, judge, at_place, refusal_among, shown_where_fit, equivalence_proof, disjunctive_proof};
+ghost use Rattle.witness.specs.Samples.{samples_meaning, branch_meaning, equivalence_sample, drawn, on_branch, three_of, three_on};
 ghost use Rattle.witness.specs.Examined.{examined_meaning, Examined};
 
-use crate::posted::{Disjunction, Transcript, Witness};
-use crate::reading::{check_draws, read_disjunctive, read_equivalence};
-use crate::samples::{Branch, Drawn, Examination, Sample, Samples, choose, draw_of, gamma_of};
-use elgamal::{Ciphertext, multiply};
-use equivalence::equation::{accepts, fold_key, fold_quotient};
+use crate::posted::{PostedDisjunctiveWitness, PostedEquivalenceWitness, Witness};
+use crate::proof::{DisjunctiveProof, EquivalenceProof, Proof};
+use crate::reading::check_draws;
+use crate::samples::{Branch, Examination, Samples, first_three};
 use group::{Exponent, Group};
+use plan::Setting;
 use posting::comparison::Comparison;
 use refusal::{Reason, Refusal};
 
-// Whether both answers are right, that the new ciphertext is the old one re-encrypted.
-fn transcript_holds<G: Group>(
-    g: &G,
-    key: G::Element,
-    old: Ciphertext<G::Element>,
-    new: Ciphertext<G::Element>,
-    z: G::Exponent,
-    transcript: Transcript<G::Element, G::Exponent>,
-) -> bool
-    ensures { result ≡ transcript_accepted G.Group.operations (G.Group.point key) (meaning G.Group.point old) (meaning G.Group.point new) (G.Exponent.Exponent.value z) (transcript_meaning G.Group.point G.Exponent.Exponent.value transcript) }
+// Reads a witness, where all its numbers are fit.
+fn read_witness<P: Proof>(
+    proof: &P,
+    witness: Witness<<P::Exponent as Exponent>::Posted, P::Posted>,
+) -> Option<Witness<P::Exponent, P::Read>>
+    ensures { MatchOption result
+        (witness_fits P.Exponent.Exponent.exponents (P.asks proof.now) (witness_meaning P.Exponent.Exponent.number P.posted_meaning witness) ≡ false)
+        (λ w. (witness_fits P.Exponent.Exponent.exponents (P.asks proof.now) (witness_meaning P.Exponent.Exponent.number P.posted_meaning witness) ≡ true) × (witness_meaning P.Exponent.Exponent.value P.read_meaning w ≡ witness_meaning P.Exponent.Exponent.number P.posted_meaning witness)) }
 {
-    let Transcript {
-        commitment,
-        first,
-        second,
-    } = transcript;
-    let folded = fold_key(g, key, z);
-    let quotient = fold_quotient(g, old, new, z);
-    accepts(
-        g,
-        folded,
-        quotient,
-        commitment,
-        first.challenge,
-        first.exponent,
-    ) && accepts(
-        g,
-        folded,
-        quotient,
-        commitment,
-        second.challenge,
-        second.exponent,
-    )
+    let Witness { z, answered } = witness;
+    let z = P::Exponent::read(z)?;
+    let answered = proof.read(answered)?;
+    Some(Witness { z, answered })
 }
 
-// Whether the parts of both challenges add up to them, bit by bit.
-fn challenges_split<E: Copy, X: Copy>(disjunction: Disjunction<E, X>) -> bool
-    ensures { result ≡ splits disjunction }
-{
-    let Disjunction {
-        challenges,
-        straight,
-        swapped,
-    } = disjunction;
-    straight.first.challenge ^ swapped.first.challenge == challenges.first
-        && straight.second.challenge ^ swapped.second.challenge == challenges.second
-}
-
-// Whether both answers to the equivalence proof are right: of the products of inputs and of outputs.
-fn product_holds<G: Group>(
-    g: &G,
-    comparison: Comparison<G::Element>,
-    z: G::Exponent,
-    transcript: Transcript<G::Element, G::Exponent>,
-) -> bool
-    ensures { result ≡ product_accepted G.Group.operations (comparison_meaning G.Group.point comparison) (G.Exponent.Exponent.value z) (transcript_meaning G.Group.point G.Exponent.Exponent.value transcript) }
-{
-    let Comparison {
-        key,
-        inputs,
-        outputs,
-    } = comparison;
-    let old = multiply(g, inputs.first, inputs.second);
-    let new = multiply(g, outputs.first, outputs.second);
-    transcript_holds(g, key, old, new, z, transcript)
-}
-
-// Examines a witness of the equivalence proof.
-fn examine_equivalence<G: Group>(
-    g: &G,
-    comparison: Comparison<G::Element>,
-    witness: Witness<
-        <G::Exponent as Exponent>::Posted,
-        Transcript<G::Element, <G::Exponent as Exponent>::Posted>,
-    >,
+// Refuses a witness for its numbers, its challenges or its answers.
+#[tactic(auto, unfolding(crate::specs::Refusals::judgement))]
+fn check_witness<P: Proof>(
+    proof: &P,
+    witness: Witness<<P::Exponent as Exponent>::Posted, P::Posted>,
     place: usize,
-) -> Result<Sample<G::Exponent>, Refusal>
+) -> Result<(), Refusal>
     ensures { MatchResult result
-        (λ s. (judge_equivalence G.Group.operations G.Exponent.Exponent.exponents (comparison_meaning G.Group.point comparison) (equivalence_meaning G.Group.point G.Exponent.Exponent.number witness) ≡ None) × (sample_meaning G.Exponent.Exponent.value s ≡ equivalence_sample G.Exponent.Exponent.exponents (equivalence_meaning G.Group.point G.Exponent.Exponent.number witness)))
-        (λ f. at_place place (judge_equivalence G.Group.operations G.Exponent.Exponent.exponents (comparison_meaning G.Group.point comparison) (equivalence_meaning G.Group.point G.Exponent.Exponent.number witness)) ≡ Some f) }
+        (λ _. judge P.Exponent.Exponent.exponents (P.asks proof.now) (witness_meaning P.Exponent.Exponent.number P.posted_meaning witness) ≡ None)
+        (λ f. at_place place (judge P.Exponent.Exponent.exponents (P.asks proof.now) (witness_meaning P.Exponent.Exponent.number P.posted_meaning witness)) ≡ Some f) }
 {
-    let Some(read) = read_equivalence::<G::Element, G::Exponent>(witness) else {
-        return Err(Reason::UnfitWitnessNumber.at(place));
-    };
-    let Witness { z, answered } = read;
-    let Transcript {
-        commitment: _,
-        first,
-        second,
-    } = answered;
-    if first.challenge == second.challenge {
-        return Err(Reason::EqualChallenges.at(place));
-    }
-    if !product_holds(g, comparison, z, answered) {
-        return Err(Reason::UnacceptedAnswer.at(place));
-    }
-    Ok(Sample {
-        z,
-        gamma: gamma_of::<G::Exponent>(first, second),
-    })
-}
-
-// Whether both answers to a disjunctive proof are right: the challenges split, and each branch holds.
-fn disjunction_holds<G: Group>(
-    g: &G,
-    comparison: Comparison<G::Element>,
-    z: G::Exponent,
-    disjunction: Disjunction<G::Element, G::Exponent>,
-) -> bool
-    ensures { result ≡ disjunction_accepted G.Group.operations (comparison_meaning G.Group.point comparison) (G.Exponent.Exponent.value z) (disjunction_meaning G.Group.point G.Exponent.Exponent.value disjunction) }
-{
-    let Comparison {
-        key,
-        inputs,
-        outputs,
-    } = comparison;
-    let Disjunction {
-        challenges: _,
-        straight,
-        swapped,
-    } = disjunction;
-    challenges_split(disjunction)
-        && transcript_holds(g, key, inputs.first, outputs.first, z, straight)
-        && transcript_holds(g, key, inputs.first, outputs.second, z, swapped)
-}
-
-// Examines a witness of the disjunctive proof.
-fn examine_disjunctive<G: Group>(
-    g: &G,
-    comparison: Comparison<G::Element>,
-    witness: Witness<
-        <G::Exponent as Exponent>::Posted,
-        Disjunction<G::Element, <G::Exponent as Exponent>::Posted>,
-    >,
-    place: usize,
-) -> Result<Drawn<G::Exponent>, Refusal>
-    ensures { MatchResult result
-        (λ d. (judge_disjunctive G.Group.operations G.Exponent.Exponent.exponents (comparison_meaning G.Group.point comparison) (disjunctive_meaning G.Group.point G.Exponent.Exponent.number witness) ≡ None) × (drawn_meaning G.Exponent.Exponent.value d ≡ drawn G.Exponent.Exponent.exponents (disjunctive_meaning G.Group.point G.Exponent.Exponent.number witness)))
-        (λ f. at_place place (judge_disjunctive G.Group.operations G.Exponent.Exponent.exponents (comparison_meaning G.Group.point comparison) (disjunctive_meaning G.Group.point G.Exponent.Exponent.number witness)) ≡ Some f) }
-{
-    let Some(read) = read_disjunctive::<G::Element, G::Exponent>(witness) else {
-        return Err(Reason::UnfitWitnessNumber.at(place));
-    };
-    let Witness { z, answered } = read;
-    let challenges = answered.challenges;
+    let unfit = Reason::UnfitWitnessNumber.at(place);
+    let Witness { z, answered } = read_witness(proof, witness).ok_or(unfit)?;
+    let challenges = proof.challenges(answered);
     if challenges.first == challenges.second {
         return Err(Reason::EqualChallenges.at(place));
     }
-    if !disjunction_holds(g, comparison, z, answered) {
+    if !proof.accepts(z, answered) {
         return Err(Reason::UnacceptedAnswer.at(place));
     }
-    Ok(draw_of::<G::Element, G::Exponent>(read))
+    Ok(())
 }
 
-// Examines the three witnesses of the equivalence proof, at the places 0 to 2.
-fn examine_equivalences<G: Group>(
-    g: &G,
-    comparison: Comparison<G::Element>,
-    witnesses: &[Witness<
-        <G::Exponent as Exponent>::Posted,
-        Transcript<G::Element, <G::Exponent as Exponent>::Posted>,
-    >],
-) -> Result<Samples<G::Exponent>, Refusal>
-    requires { length witnesses.now ≡ 3 }
+// Refuses the witnesses of one proof, which have the places from `start` on.
+fn check_witnesses<P: Proof>(
+    proof: &P,
+    witnesses: &[Witness<<P::Exponent as Exponent>::Posted, P::Posted>],
+    start: usize,
+) -> Result<(), Refusal>
+    requires { start + length witnesses.now ≤ 8 }
     ensures { MatchResult result
-        (λ s. (equivalence_refusal G.Group.operations G.Exponent.Exponent.exponents (comparison_meaning G.Group.point comparison) (map (equivalence_meaning G.Group.point G.Exponent.Exponent.number) witnesses.now) ≡ None) × (samples_meaning G.Exponent.Exponent.value s ≡ first_three (map (equivalence_sample G.Exponent.Exponent.exponents) (map (equivalence_meaning G.Group.point G.Exponent.Exponent.number) witnesses.now))))
-        (λ f. equivalence_refusal G.Group.operations G.Exponent.Exponent.exponents (comparison_meaning G.Group.point comparison) (map (equivalence_meaning G.Group.point G.Exponent.Exponent.number) witnesses.now) ≡ Some f) }
+        (λ _. refusal_among P.Exponent.Exponent.exponents (P.asks proof.now) start (map (witness_meaning P.Exponent.Exponent.number P.posted_meaning) witnesses.now) ≡ None)
+        (λ f. refusal_among P.Exponent.Exponent.exponents (P.asks proof.now) start (map (witness_meaning P.Exponent.Exponent.number P.posted_meaning) witnesses.now) ≡ Some f) }
 {
-    check_draws::<G::Exponent, Transcript<G::Element, <G::Exponent as Exponent>::Posted>>(
-        witnesses, 0,
-    )?;
-    let first = examine_equivalence(g, comparison, witnesses[0], 0)?;
-    let second = examine_equivalence(g, comparison, witnesses[1], 1)?;
-    let third = examine_equivalence(g, comparison, witnesses[2], 2)?;
-    Ok(Samples {
-        first,
-        second,
-        third,
-    })
+    check_draws::<P::Exponent, P::Posted>(witnesses, start)?;
+    for (i, witness) in witnesses.iter().enumerate() {
+        check_witness(proof, *witness, start + i)?;
+    }
+    Ok(())
 }
 
-// Examines the five witnesses of the disjunctive proof, at the places 3 to 7.
-fn examine_disjunctives<G: Group>(
-    g: &G,
-    comparison: Comparison<G::Element>,
-    witnesses: &[Witness<
-        <G::Exponent as Exponent>::Posted,
-        Disjunction<G::Element, <G::Exponent as Exponent>::Posted>,
-    >],
-) -> Result<Branch<G::Exponent>, Refusal>
-    requires { length witnesses.now ≡ 5 }
-    ensures { MatchResult result
-        (λ b. (disjunctive_refusal G.Group.operations G.Exponent.Exponent.exponents (comparison_meaning G.Group.point comparison) (map (disjunctive_meaning G.Group.point G.Exponent.Exponent.number) witnesses.now) ≡ None) × (branch_meaning G.Exponent.Exponent.value b ≡ chosen (map (drawn G.Exponent.Exponent.exponents) (map (disjunctive_meaning G.Group.point G.Exponent.Exponent.number) witnesses.now))))
-        (λ f. disjunctive_refusal G.Group.operations G.Exponent.Exponent.exponents (comparison_meaning G.Group.point comparison) (map (disjunctive_meaning G.Group.point G.Exponent.Exponent.number) witnesses.now) ≡ Some f) }
+// What a witness shows, where its numbers are fit.
+fn show<P: Proof>(
+    proof: &P,
+    witness: Witness<<P::Exponent as Exponent>::Posted, P::Posted>,
+) -> Option<P::Shown>
+    ensures { option_map P.shown_meaning result ≡ shown_where_fit P.Exponent.Exponent.exponents (P.asks proof.now) P.shown (witness_meaning P.Exponent.Exponent.number P.posted_meaning witness) }
 {
-    check_draws::<G::Exponent, Disjunction<G::Element, <G::Exponent as Exponent>::Posted>>(
-        witnesses, 3,
-    )?;
-    let a = examine_disjunctive(g, comparison, witnesses[0], 3)?;
-    let b = examine_disjunctive(g, comparison, witnesses[1], 4)?;
-    let c = examine_disjunctive(g, comparison, witnesses[2], 5)?;
-    let d = examine_disjunctive(g, comparison, witnesses[3], 6)?;
-    let e = examine_disjunctive(g, comparison, witnesses[4], 7)?;
-    Ok(choose(a, b, c, d, e))
+    Some(proof.show(read_witness(proof, witness)?))
+}
+
+// The first three samples of the equivalence proof.
+fn product_samples<G: Group>(
+    proof: &EquivalenceProof<'_, G>,
+    witnesses: &[PostedEquivalenceWitness<G>],
+) -> Option<Samples<G::Exponent>>
+    ensures { let asks = equivalence_proof G.Group.operations G.Exponent.Exponent.exponents (comparison_meaning G.Group.point proof.now.comparison) in
+        option_map (samples_meaning G.Exponent.Exponent.value) result ≡ three_of (filter_map (shown_where_fit G.Exponent.Exponent.exponents asks (equivalence_sample G.Exponent.Exponent.exponents)) (map (equivalence_meaning G.Group.point G.Exponent.Exponent.number) witnesses.now)) }
+{
+    first_three(witnesses.iter().filter_map(|witness| show(proof, *witness)))
+}
+
+// A branch of the disjunctive proof with its first three samples, where it has three.
+fn branch_on<G: Group>(
+    proof: &DisjunctiveProof<'_, G>,
+    witnesses: &[PostedDisjunctiveWitness<G>],
+    setting: Setting,
+) -> Option<Branch<G::Exponent>>
+    ensures { let asks = disjunctive_proof G.Group.operations G.Exponent.Exponent.exponents (comparison_meaning G.Group.point proof.now.comparison) in
+        option_map (branch_meaning G.Exponent.Exponent.value) result ≡ three_on setting (filter_map (shown_where_fit G.Exponent.Exponent.exponents asks (drawn G.Exponent.Exponent.exponents)) (map (disjunctive_meaning G.Group.point G.Exponent.Exponent.number) witnesses.now)) }
+{
+    first_three(
+        witnesses
+            .iter()
+            .filter_map(|witness| show(proof, *witness))
+            .filter_map(|drawn| drawn.on(setting)),
+    )
+    .map(|samples| Branch { setting, samples })
+}
+
+// The branch of the disjunctive proof that has three samples, the straight one where both have.
+fn choose_branch<G: Group>(
+    proof: &DisjunctiveProof<'_, G>,
+    witnesses: &[PostedDisjunctiveWitness<G>],
+) -> Option<Branch<G::Exponent>>
+    ensures { let asks = disjunctive_proof G.Group.operations G.Exponent.Exponent.exponents (comparison_meaning G.Group.point proof.now.comparison) in
+        let shown = filter_map (shown_where_fit G.Exponent.Exponent.exponents asks (drawn G.Exponent.Exponent.exponents)) (map (disjunctive_meaning G.Group.point G.Exponent.Exponent.number) witnesses.now) in
+        option_map (branch_meaning G.Exponent.Exponent.value) result ≡ option_or (three_on Straight shown) (three_on Swapped shown) }
+{
+    let straight = branch_on(proof, witnesses, Setting::Straight);
+    straight.or_else(|| branch_on(proof, witnesses, Setting::Swapped))
 }
 
 // Examines the witnesses of both proofs: the first refusal, or what they show.
 pub fn examine<G: Group>(
     g: &G,
     comparison: Comparison<G::Element>,
-    equivalence: &[Witness<
-        <G::Exponent as Exponent>::Posted,
-        Transcript<G::Element, <G::Exponent as Exponent>::Posted>,
-    >],
-    disjunction: &[Witness<
-        <G::Exponent as Exponent>::Posted,
-        Disjunction<G::Element, <G::Exponent as Exponent>::Posted>,
-    >],
+    equivalence: &[PostedEquivalenceWitness<G>],
+    disjunction: &[PostedDisjunctiveWitness<G>],
 ) -> Result<Examination<G::Exponent>, Refusal>
     ensures { Examined G.Group.operations G.Exponent.Exponent.exponents (comparison_meaning G.Group.point comparison) (map (equivalence_meaning G.Group.point G.Exponent.Exponent.number) equivalence.now) (map (disjunctive_meaning G.Group.point G.Exponent.Exponent.number) disjunction.now) (examined_meaning G.Exponent.Exponent.value result) }
 {
-    if equivalence.len() != 3 {
+    if equivalence.len() != 3 || disjunction.len() != 5 {
         return Err(Reason::UnfitWitnessCount.at(0));
     }
-    if disjunction.len() != 5 {
-        return Err(Reason::UnfitWitnessCount.at(0));
-    }
-    let product = examine_equivalences(g, comparison, equivalence)?;
-    let branch = examine_disjunctives(g, comparison, disjunction)?;
+    let product_proof = EquivalenceProof { g, comparison };
+    let branch_proof = DisjunctiveProof { g, comparison };
+    check_witnesses(&product_proof, equivalence, 0)?;
+    check_witnesses(&branch_proof, disjunction, 3)?;
+    // No witness is refused: each shows a sample, and of five one branch has three. They are read once more,
+    // since no memory is allocated, and an array of exponents of any kind has no known size.
+    let product = product_samples(&product_proof, equivalence).unwrap();
+    let branch = choose_branch(&branch_proof, disjunction).unwrap();
     Ok(Examination { product, branch })
 }

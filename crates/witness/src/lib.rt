@@ -3,5 +3,6 @@
 
 pub mod examining;
 pub mod posted;
+mod proof;
 mod reading;
 pub mod samples;

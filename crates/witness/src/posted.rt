@@ -1,4 +1,8 @@
 // Witnesses as they are posted: an exponent may not be below the order, a challenge may be too wide.
+ghost use Rattle.std.specs.Prelude.{◌≡◌};
+ghost use Rattle.witness.specs.Refusals.{transcript_challenges};
+
+use group::{Exponent, Group};
 
 // A challenge and the answer to it.
 #[derive(Clone, Copy)]
@@ -13,6 +17,18 @@ pub struct Transcript<E, N> {
     pub commitment: E,
     pub first: Answer<N>,
     pub second: Answer<N>,
+}
+
+impl<E: Copy, N: Copy> Transcript<E, N> {
+    // The challenges of both answers.
+    pub(crate) fn challenges(self) -> Challenges
+        ensures { result ≡ transcript_challenges self }
+    {
+        Challenges {
+            first: self.first.challenge,
+            second: self.second.challenge,
+        }
+    }
 }
 
 // The challenges of the first and of the second answer.
@@ -36,3 +52,18 @@ pub struct Witness<N, T> {
     pub z: N,
     pub answered: T,
 }
+
+// A number as a group's exponents are posted.
+type Number<G> = <<G as Group>::Exponent as Exponent>::Posted;
+
+// A witness of the equivalence proof in a group, as it is posted.
+pub type PostedEquivalenceWitness<G> = Witness<
+    Number<G>,
+    Transcript<<G as Group>::Element, Number<G>>,
+>;
+
+// A witness of the disjunctive proof in a group, as it is posted.
+pub type PostedDisjunctiveWitness<G> = Witness<
+    Number<G>,
+    Disjunction<<G as Group>::Element, Number<G>>,
+>;

@@ -1,7 +1,7 @@
 // Reading what was posted: numbers that are fit, and draws that differ.
 ghost use Rattle.std.specs.Prelude.{◌≡◌, ◌+◌, ◌<◌, ◌≤◌, true, false, [], length, Some, None, MatchOption, MatchResult};
-ghost use Rattle.witness.specs.Witnesses.{answer_meaning, transcript_meaning, disjunction_meaning, equivalence_meaning, disjunctive_meaning};
-ghost use Rattle.witness.specs.Refusals.{stands, draws, repeated, challenge_fits, answer_fits, transcript_fits, disjunction_fits, equivalence_fits, disjunctive_fits};
+ghost use Rattle.witness.specs.Witnesses.{answer_meaning, transcript_meaning, disjunction_meaning};
+ghost use Rattle.witness.specs.Refusals.{stands, draws, repeated, challenge_fits, answer_fits, transcript_fits, disjunction_fits};
 
 use crate::posted::{Answer, Challenges, Disjunction, Transcript, Witness};
 use group::Exponent;
@@ -11,12 +11,7 @@ use refusal::{Reason, Refusal};
 fn drawn_among<X: Exponent, T: Copy>(z: X::Posted, witnesses: &[Witness<X::Posted, T>]) -> bool
     ensures { result ≡ stands (X.Exponent.number z) (draws X.Exponent.number witnesses.now) }
 {
-    for witness in witnesses {
-        if X::same_posted(z, witness.z) {
-            return true;
-        }
-    }
-    false
+    witnesses.iter().any(|witness| X::same_posted(z, witness.z))
 }
 
 // Refuses the first witness that has the z of an earlier one.
@@ -65,7 +60,7 @@ fn read_answer<X: Exponent>(answer: Answer<X::Posted>) -> Option<Answer<X>>
 }
 
 // Reads a transcript, where all its numbers are fit.
-fn read_transcript<E: Copy, X: Exponent>(
+pub(crate) fn read_transcript<E: Copy, X: Exponent>(
     transcript: Transcript<E, X::Posted>,
 ) -> Option<Transcript<E, X>>
     ensures { MatchOption result
@@ -87,7 +82,7 @@ fn read_transcript<E: Copy, X: Exponent>(
 }
 
 // Reads both answers to a disjunctive proof.
-fn read_disjunction<E: Copy, X: Exponent>(
+pub(crate) fn read_disjunction<E: Copy, X: Exponent>(
     disjunction: Disjunction<E, X::Posted>,
 ) -> Option<Disjunction<E, X>>
     ensures { MatchOption result
@@ -112,32 +107,4 @@ fn read_disjunction<E: Copy, X: Exponent>(
         straight,
         swapped,
     })
-}
-
-// Reads a witness of the equivalence proof.
-pub(crate) fn read_equivalence<E: Copy, X: Exponent>(
-    witness: Witness<X::Posted, Transcript<E, X::Posted>>,
-) -> Option<Witness<X, Transcript<E, X>>>
-    ensures { MatchOption result
-        (equivalence_fits X.Exponent.exponents (equivalence_meaning (λ e. e) X.Exponent.number witness) ≡ false)
-        (λ w. (equivalence_fits X.Exponent.exponents (equivalence_meaning (λ e. e) X.Exponent.number witness) ≡ true) × (equivalence_meaning (λ e. e) X.Exponent.value w ≡ equivalence_meaning (λ e. e) X.Exponent.number witness)) }
-{
-    let Witness { z, answered } = witness;
-    let z = X::read(z)?;
-    let answered = read_transcript::<E, X>(answered)?;
-    Some(Witness { z, answered })
-}
-
-// Reads a witness of the disjunctive proof.
-pub(crate) fn read_disjunctive<E: Copy, X: Exponent>(
-    witness: Witness<X::Posted, Disjunction<E, X::Posted>>,
-) -> Option<Witness<X, Disjunction<E, X>>>
-    ensures { MatchOption result
-        (disjunctive_fits X.Exponent.exponents (disjunctive_meaning (λ e. e) X.Exponent.number witness) ≡ false)
-        (λ w. (disjunctive_fits X.Exponent.exponents (disjunctive_meaning (λ e. e) X.Exponent.number witness) ≡ true) × (disjunctive_meaning (λ e. e) X.Exponent.value w ≡ disjunctive_meaning (λ e. e) X.Exponent.number witness)) }
-{
-    let Witness { z, answered } = witness;
-    let z = X::read(z)?;
-    let answered = read_disjunction::<E, X>(answered)?;
-    Some(Witness { z, answered })
 }

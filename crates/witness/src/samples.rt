@@ -1,10 +1,11 @@
 // What witnesses show: at z, the exponent gamma.
-ghost use Rattle.std.specs.Prelude.{◌≡◌, [], ◌∷◌};
+ghost use Rattle.std.specs.Prelude.{◌≡◌, ℕ, List};
+ghost use Rattle.std.specs.Iterator.{AlwaysYields};
+ghost use Rattle.std.specs.Option.{option_map};
 ghost use Rattle.group.specs.Exponents.{remainder, difference};
-ghost use Rattle.plan.specs.declared.Setting.TheVariants.{Straight, Swapped};
 ghost use Rattle.witness.specs.Witnesses.{answer_meaning, disjunctive_meaning};
-ghost use Rattle.witness.specs.Samples.{drawn_meaning, branch_meaning, sample_meaning, gamma, drawn, chosen};
-ghost use Rattle.witness.specs.Gathering.{gathered_meaning, one_more, gather};
+ghost use Rattle.witness.specs.Samples.{sample_meaning, samples_meaning, drawn_meaning, sample_on, gamma, drawn, three_of};
+ghost use Rattle.witness.specs.declared.samples.Sample.{Sample};
 
 use crate::posted::{Answer, Disjunction, Witness};
 use group::Exponent;
@@ -46,20 +47,13 @@ pub struct Drawn<X> {
     pub sample: Sample<X>,
 }
 
-// The first samples of a branch, at most three.
-#[derive(Clone, Copy)]
-enum Gathered<X> {
-    Nothing,
-    One(Sample<X>),
-    Two(Sample<X>, Sample<X>),
-    Three(Samples<X>),
-}
-
-// The first samples of both branches.
-#[derive(Clone, Copy)]
-struct Sorted<X> {
-    straight: Gathered<X>,
-    swapped: Gathered<X>,
+impl<X: Copy> Drawn<X> {
+    // The sample, where it is of this branch.
+    pub(crate) fn on(self, setting: Setting) -> Option<Sample<X>>
+        ensures { result ≡ sample_on setting self }
+    {
+        (self.setting == setting).then_some(self.sample)
+    }
 }
 
 // The difference of two challenges, as an exponent.
@@ -70,6 +64,7 @@ fn challenge_difference<X: Exponent>(first: u64, second: u64) -> X
 }
 
 // The exponent that two answers to one commitment give: (s - s') / (c - c').
+#[tactic(auto, unfolding(crate::specs::Samples::gamma))]
 pub(crate) fn gamma_of<X: Exponent>(first: Answer<X>, second: Answer<X>) -> X
     ensures { X.Exponent.value result ≡ gamma X.Exponent.exponents (answer_meaning X.Exponent.value first) (answer_meaning X.Exponent.value second) }
 {
@@ -102,69 +97,19 @@ pub(crate) fn draw_of<E: Copy, X: Exponent>(witness: Witness<X, Disjunction<E, X
     }
 }
 
-// One more sample, where there are not three.
-fn with_sample<X: Exponent>(gathered: Gathered<X>, sample: Sample<X>) -> Gathered<X>
-    ensures { gathered_meaning X.Exponent.value result ≡ one_more (gathered_meaning X.Exponent.value gathered) (sample_meaning X.Exponent.value sample) }
+// The first three samples, where there are three.
+pub(crate) fn first_three<X: Exponent, I: Iterator<Item = Sample<X>>>(
+    mut samples: I,
+) -> Option<Samples<X>>
+    requires { I.can_next samples }
+    ensures { (given : List (Sample ℕ)) → AlwaysYields I.next_gives (sample_meaning X.Exponent.value) samples given → option_map (samples_meaning X.Exponent.value) result ≡ three_of given }
 {
-    match gathered {
-        Gathered::Nothing => Gathered::One(sample),
-        Gathered::One(first) => Gathered::Two(first, sample),
-        Gathered::Two(first, second) => Gathered::Three(Samples {
-            first,
-            second,
-            third: sample,
-        }),
-        Gathered::Three(samples) => Gathered::Three(samples),
-    }
-}
-
-// One more sample of its branch.
-fn with_drawn<X: Exponent>(sorted: Sorted<X>, drawn: Drawn<X>) -> Sorted<X>
-    ensures straight { gathered_meaning X.Exponent.value result.straight ≡ gather Straight (gathered_meaning X.Exponent.value sorted.straight) (drawn_meaning X.Exponent.value drawn) }
-    ensures swapped { gathered_meaning X.Exponent.value result.swapped ≡ gather Swapped (gathered_meaning X.Exponent.value sorted.swapped) (drawn_meaning X.Exponent.value drawn) }
-{
-    let Sorted { straight, swapped } = sorted;
-    let Drawn { setting, sample } = drawn;
-    match setting {
-        Setting::Straight => Sorted {
-            straight: with_sample(straight, sample),
-            swapped,
-        },
-        Setting::Swapped => Sorted {
-            straight,
-            swapped: with_sample(swapped, sample),
-        },
-    }
-}
-
-// The branch that has three or more of five, with its first three samples.
-pub(crate) fn choose<X: Exponent>(
-    a: Drawn<X>,
-    b: Drawn<X>,
-    c: Drawn<X>,
-    d: Drawn<X>,
-    e: Drawn<X>,
-) -> Branch<X>
-    ensures { branch_meaning X.Exponent.value result ≡ chosen (drawn_meaning X.Exponent.value a ∷ drawn_meaning X.Exponent.value b ∷ drawn_meaning X.Exponent.value c ∷ drawn_meaning X.Exponent.value d ∷ drawn_meaning X.Exponent.value e ∷ []) }
-{
-    let none = Sorted {
-        straight: Gathered::Nothing,
-        swapped: Gathered::Nothing,
-    };
-    let two = with_drawn(with_drawn(none, a), b);
-    let four = with_drawn(with_drawn(two, c), d);
-    let Sorted { straight, swapped } = with_drawn(four, e);
-    if let Gathered::Three(samples) = straight {
-        return Branch {
-            setting: Setting::Straight,
-            samples,
-        };
-    }
-    match swapped {
-        Gathered::Three(samples) => Branch {
-            setting: Setting::Swapped,
-            samples,
-        },
-        _ => unreachable(),
-    }
+    let first = samples.next()?;
+    let second = samples.next()?;
+    let third = samples.next()?;
+    Some(Samples {
+        first,
+        second,
+        third,
+    })
 }

@@ -12,6 +12,7 @@ use crate::setup::Setup;
 use clearing::Clearing;
 use group::{Exponent, Group};
 use plan::Plan;
+use posting::drawing::buffer_fits;
 use refusal::{Reason, Refusal};
 use source::Source;
 
@@ -27,9 +28,9 @@ pub fn call<G: Group, P: Plan, S: Source>(
     ensures cleared { buffer.new ≡ zeros 0 buffer.old }
 {
     let buffer = Clearing { places: buffer };
-    let short = buffer.places.len() < 11 * setup.group.code_width();
+    let fits = buffer_fits::<G>(buffer.places.len());
     match (board.stage, event) {
-        (_, Event::Step(_)) if short => Err(Reason::UnfitLength.at(board.next)),
+        (_, Event::Step(_)) if !fits => Err(Reason::UnfitLength.at(board.next)),
         (Stage::Gathering, Event::Post(quote)) => board.post(quote),
         (Stage::Gathering, Event::Close) => board.close(),
         (Stage::Turning, Event::Step(message)) => step(board, setup, message, buffer.places),

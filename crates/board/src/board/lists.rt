@@ -16,14 +16,15 @@ pub(crate) fn fill<T: Copy>(list: &mut [T], item: T)
 }
 
 impl<'a, E: Copy> Board<'a, E> {
-    // The wires become the list that the next turn starts from.
+    // The wires become the list that the next turn starts from. Each list is lent by a name of its own, since the proof
+    // covers no copy between two lent fields.
     pub(crate) fn keep(&mut self)
         ensures state { view self.new ≡ kept_state (view self.old) }
         ensures key { self.new.key ≡ self.old.key }
     {
-        for k in 0..self.wires.len() {
-            self.start[k] = self.wires[k];
-        }
+        let wires = &mut *self.wires;
+        let start = &mut *self.start;
+        start.copy_from_slice(wires);
     }
 
     // The wires become what they were when the turn started.
@@ -31,9 +32,9 @@ impl<'a, E: Copy> Board<'a, E> {
         ensures state { view self.new ≡ restored_state (view self.old) }
         ensures key { self.new.key ≡ self.old.key }
     {
-        for k in 0..self.start.len() {
-            self.wires[k] = self.start[k];
-        }
+        let start = &mut *self.start;
+        let wires = &mut *self.wires;
+        wires.copy_from_slice(start);
     }
 
     // The present turn is over: the next server begins, or the round is finished.

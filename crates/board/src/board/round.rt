@@ -102,13 +102,8 @@ impl<'a, E> Board<'a, E> {
     {
         match self.stage {
             Stage::Gathering | Stage::Turning => Verdict::Unfinished,
-            Stage::Finished => {
-                if needed_of(self.servers) <= self.completed {
-                    Verdict::Stands
-                } else {
-                    Verdict::Void
-                }
-            }
+            Stage::Finished if needed_of(self.servers) <= self.completed => Verdict::Stands,
+            Stage::Finished => Verdict::Void,
         }
     }
 

@@ -15,6 +15,7 @@ use equivalence::check::check;
 use group::{Exponent, Group};
 use plan::{Comparator, Plan};
 use posting::comparison::{Comparison, Pair};
+use posting::drawing::Challenger;
 use prover::states::Message;
 use refusal::{Reason, Refusal};
 use source::Source;
@@ -32,18 +33,14 @@ pub(crate) fn question_of(count: usize, server: usize, next: usize) -> u64
 
 impl<'a, E: Copy> Board<'a, E> {
     // What the step's proofs speak of, on a comparator within the wires.
-    fn comparison_on(&mut self, on: Comparator, outputs: Pair<E>) -> Comparison<E>
-        requires first { on.first < length self.old.wires.now }
-        requires second { on.second < length self.old.wires.now }
-        ensures is { result ≡ comparison_at self.old.key self.old.wires.now on outputs }
-        ensures kept { self.new ≡ self.old }
+    fn comparison_on(&self, on: Comparator, outputs: Pair<E>) -> Comparison<E>
+        requires first { on.first < length self.now.wires.now }
+        requires second { on.second < length self.now.wires.now }
+        ensures { result ≡ comparison_at self.now.key self.now.wires.now on outputs }
     {
-        let key = self.key;
-        let first = self.wires[on.first];
-        let second = self.wires[on.second];
         Comparison {
-            key,
-            inputs: Pair { first, second },
+            key: self.key,
+            inputs: self.inputs_on(on),
             outputs,
         }
     }
@@ -62,17 +59,18 @@ pub(crate) fn step<G: Group, P: Plan, S: Source>(
     ensures happens { StepHappens (judge_step (terms G.Group.operations G.Exponent.Exponent.exponents (S.Source.words setup.now.source.now) (G.Group.point board.old.key) (P.Plan.listing setup.now.plan.now)) (state_map (meaning G.Group.point) (view board.old)) (message_meaning G.Group.point G.Exponent.Exponent.number message) (nth (P.Plan.listing setup.now.plan.now) board.old.next)) (P.Plan.listing setup.now.plan.now) (view board.old) message.outputs result (view board.new) }
 {
     let next = board.next;
-    let Some(on) = setup.plan.comparator(next) else {
+    let Some(on) = board.next_comparator(setup.plan) else {
         return Err(Reason::WrongStage.at(next));
     };
-    if on.second >= board.wires.len() {
-        return Err(Reason::WrongStage.at(next));
-    }
     let count = setup.plan.count();
     let Message { outputs, proofs } = message;
     let comparison = board.comparison_on(on, outputs);
     let question = question_of(count, board.server, next);
-    let Setup { group, source, .. } = *setup;
-    check(group, source, comparison, proofs, question, buffer, next)?;
+    let challenger = Challenger {
+        group: setup.group,
+        source: setup.source,
+        place: next,
+    };
+    check(&challenger, comparison, proofs, question, buffer)?;
     Ok(board.write(on, outputs, count))
 }

@@ -12,13 +12,13 @@ ghost use Rattle.board.specs.States.{view, state_map};
 ghost use Rattle.board.specs.declared.events.Stage.TheVariants.{Turning};
 
 use super::Board;
-use super::step::question_of;
+use super::serve::prove_on;
 use crate::events::Stage;
 use crate::setup::Setup;
 use clearing::Clearing;
 use group::{Exponent, Group};
 use plan::{Comparator, Plan, Setting};
-use prover::honest::prove;
+use posting::drawing::buffer_fits;
 use prover::states::Message;
 use refusal::{Reason, Refusal};
 use source::Source;
@@ -42,19 +42,8 @@ fn serve_step<G: Group, P: Plan, S: Source>(
     ensures key { board.new.key ≡ board.old.key }
     ensures state { state_map (meaning G.Group.point) (view board.new) ≡ after_step (terms G.Group.operations G.Exponent.Exponent.exponents (S.Source.words setup.now.source.now) (G.Group.point board.old.key) (P.Plan.listing setup.now.plan.now)) (state_map (meaning G.Group.point) (view board.old)) (honest_step (terms G.Group.operations G.Exponent.Exponent.exponents (S.Source.words setup.now.source.now) (G.Group.point board.old.key) (P.Plan.listing setup.now.plan.now)) (state_map (meaning G.Group.point) (view board.old)) on setting words) (Some on) }
 {
-    let Setup {
-        group,
-        plan,
-        source,
-    } = *setup;
-    let next = board.next;
-    let count = plan.count();
-    let inputs = board.inputs_on(on);
-    let question = question_of(count, board.server, next);
-    let Message { outputs, proofs: _ } = prove(
-        group, source, board.key, inputs, setting, &mut words, question, buffer, next,
-    )?;
-    let _ = board.write(on, outputs, count);
+    let Message { outputs, proofs: _ } = prove_on(board, setup, on, setting, &mut words, buffer)?;
+    let _ = board.write(on, outputs, setup.plan.count());
     Ok(())
 }
 
@@ -93,12 +82,12 @@ fn serve_steps<G: Group, P: Plan, S: Source>(
     ensures key { board.new.key ≡ board.old.key }
     ensures state { state_map (meaning G.Group.point) (view board.new) ≡ turned (terms G.Group.operations G.Exponent.Exponent.exponents (S.Source.words setup.now.source.now) (G.Group.point board.old.key) (P.Plan.listing setup.now.plan.now)) (P.Plan.listing setup.now.plan.now) settings.now words.now (state_map (meaning G.Group.point) (view board.old)) }
 {
-    for k in 0..settings.len() {
+    for (k, setting) in settings.iter().enumerate() {
         let Some(on) = setup.plan.comparator(k) else {
             return Err(Reason::WrongStage.at(k));
         };
         let six = six_words(words, k);
-        serve_step(board, setup, on, settings[k], six, buffer)?;
+        serve_step(board, setup, on, *setting, six, buffer)?;
     }
     Ok(())
 }
@@ -106,7 +95,6 @@ fn serve_steps<G: Group, P: Plan, S: Source>(
 // Whether the lent lists fit a turn: an entry for each wire, a place and six words for each comparator, and the
 // posting buffer.
 fn lengths_fit<G: Group, P: Plan>(
-    group: &G,
     plan: &P,
     permutation: usize,
     places: usize,
@@ -116,10 +104,7 @@ fn lengths_fit<G: Group, P: Plan>(
     ensures { result ≡ both (permutation == P.Plan.width plan.now) (both (places == length (P.Plan.listing plan.now)) (both (words == 6 * length (P.Plan.listing plan.now)) (buffer_fits G.Group.operations bytes))) }
 {
     let count = plan.count();
-    permutation == plan.wires()
-        && places == count
-        && words == 6 * count
-        && bytes >= 11 * group.code_width()
+    permutation == plan.wires() && places == count && words == 6 * count && buffer_fits::<G>(bytes)
 }
 
 // Whether a turn is at its comparator 0, on as many wires as the plan has.
@@ -156,26 +141,20 @@ pub fn serve<G: Group, P: Plan, S: Source>(
     ensures words_cleared { words.new ≡ zeros 0 words.old }
     ensures buffer_cleared { buffer.new ≡ zeros 0 buffer.old }
 {
-    let Setup { group, plan, .. } = *setup;
+    let plan = setup.plan;
     let settings = Clearing { places: settings };
     let words = Clearing { places: words };
     let buffer = Clearing { places: buffer };
     let next = board.next;
     let places = settings.places.len();
     let bytes = buffer.places.len();
-    if !lengths_fit(
-        group,
-        plan,
-        permutation.len(),
-        places,
-        words.places.len(),
-        bytes,
-    ) {
+    if !lengths_fit::<G, P>(plan, permutation.len(), places, words.places.len(), bytes) {
         return Err(Reason::UnfitLength.at(next));
     }
     if !is_at_start(board, plan.wires()) {
         return Err(Reason::WrongStage.at(next));
     }
+    // by `map_err` the refusal's place would go through a closure's contract, and the proof did not close
     if let Err(refusal) = plan.route(permutation, settings.places) {
         return Err(refusal.reason.at(next));
     }

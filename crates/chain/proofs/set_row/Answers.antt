@@ -1,14 +1,8 @@
 use Rattle.std.proofs.Common.{◌+◌, arith}
 use Rattle.plan.specs.declared.Setting.TheVariants.{Straight}
-use Rattle.std.proofs.lemmas.List.Edits.{fill_by_more}
 use Rattle.plan.proofs.Places.{filled}
 use Rattle.chain.specs.Stages.{row_setting}
 use Rattle.chain.proofs.set_row.Goals as goal
-
-pub loop-i-preserved : goal.loop-i-preserved
-loop-i-preserved c =
-    rw c.setting_with.ensures
-    (fill_by_more (λ k. row_setting c.args.from (c.args.first + 1 + k)) c.loop-i.row c.loop-i.i Straight (omega arith) c.loop-i.invariant)
 
 pub returns : goal.returns
 returns c = filled (row_setting c.args.from) (c.args.first + 1) _ c.loop-i.row Straight c.loop-i.auto.row (λ k h. c.loop-i.invariant k (omega arith))

@@ -7,7 +7,7 @@ use Rattle.chain.proofs.set_rows.Given as goal
 
 abbrev pub invariant-loop-j : goal.invariant-loop-j
 invariant-loop-j l =
-    (length l.wanted ≡ 64)
+    (length l.wanted ≡ l.wires)
     × (l.start + length (chain_from l.j (l.wires - l.j)) ≡ length l.settings)
     × Permutes l.j l.wires (at l.wanted)
     × Goes l.j l.wires (at l.wanted) (take l.start l.settings) (at l.initial.wanted)

@@ -1,14 +1,9 @@
 use Rattle.std.proofs.Common.{◌≡◌, ℕ, length, refl, subst, arith}
-use Rattle.plan.proofs.Marks.{Marked, marked_none, marked_more, marked_permutation, marked_inverse}
+use Rattle.plan.proofs.Marks.{Marked, marked_none, marked_permutation, marked_inverse}
 use Rattle.plan.proofs.inverted.Goals as goal
 
 pub loop-x-init : goal.loop-x-init
 loop-x-init c = marked_none (length c.args.permutation.now) c.args.permutation.now
-
-pub loop-x-preserved : goal.loop-x-preserved
-loop-x-preserved c =
-    let d = c.is_new.ensures.0 c.if-not-is_new.false in
-    marked_more c.loop-x.x _ c.args.permutation.now c.loop-x.inverse (omega arith) (omega arith) d.0 d.1 c.loop-x.invariant
 
 pub returns : goal.returns
 returns c =

@@ -1,6 +1,6 @@
 use Rattle.std.proofs.Common.{◌≡◌, ℕ, suc, ◌+◌, ◌-◌, ◌*◌, ◌/◌, ◌%◌, ◌<◌, ◌≤◌, sym, ap, ◌∙◌, subst, arith}
 use lib.Bits.{bit_xor, xor_assoc, xor_zero_r}
-use Rattle.polynomial.specs.Linear.{bit_below, bit, product_xor}
+use Rattle.polynomial.specs.Linear.{product_xor}
 use Rattle.polynomial.specs.Product.{times_t, product}
 use Rattle.polynomial.specs.Tables.{times_t_below}
 use Rattle.polynomial.proofs.multiply.Goals as goal
@@ -18,11 +18,6 @@ unfolding product
 none_left s x y t i h was =
     let e : 0 ≡ 13 - i = omega arith in
     sym (xor_zero_r s) ∙ ap (λ (n : ℕ). bit_xor s (product n x y)) e ∙ was
-
-pub overflow_mul-sum : goal.overflow_mul-sum
-overflow_mul-sum c =
-    let h : c.loop-turn.shifted * (c.loop-turn.bits % 2) < 8192 = bit_below c.loop-turn.shifted (c.loop-turn.bits % 2) (bit c.loop-turn.bits) c.loop-turn.invariant.0 in
-    record { fits = omega arith }
 
 pub loop-turn-preserved : goal.loop-turn-preserved
 loop-turn-preserved c =

@@ -1,9 +1,10 @@
 // Making an honest comparator's outputs, its commitments and its answers.
-ghost use Rattle.std.specs.Prelude.{◌≡◌, length, OnOk};
+ghost use Rattle.std.specs.Prelude.{◌≡◌, ◌+◌, ◌≤◌, length, OnOk};
 ghost use Rattle.clearing.specs.Zeros.{zeros};
 ghost use Rattle.equivalence.specs.Judgement.{proofs_meaning};
+ghost use Rattle.posting.specs.Commitments.{commitment_points};
 ghost use Rattle.posting.specs.Comparison.{pair_meaning, comparison_meaning};
-ghost use Rattle.prover.specs.Honest.{by_setting, answer_of, answered_proofs, equivalence_challenge, disjunction_challenge, equivalence_z, disjunction_z, true_commitment, simulated_commitment};
+ghost use Rattle.prover.specs.Honest.{by_setting, word_over, answer_of, answered_proofs, equivalence_challenge, disjunction_challenge, equivalence_z, disjunction_z, true_commitment, simulated_commitment};
 ghost use Rattle.prover.specs.Secrets.{secrets_meaning};
 ghost use Rattle.prover.specs.States.{made_meaning, committed_meaning, message_meaning, outputs_made, committed, answer_message, honest_message, unready, Outcome};
 
@@ -12,11 +13,11 @@ use crate::secrets::Secrets;
 use clearing::Clearing;
 use elgamal::reencrypt;
 use equivalence::equation::{fold_key, fold_quotient};
-use equivalence::proofs::{Branch, DisjunctiveProof, EquivalenceProof, Proofs};
+use equivalence::proofs::{Branch, DisjunctiveProof, EquivalenceProof, OfBoth, Proofs};
 use group::{Exponent, Group};
 use plan::Setting;
 use posting::comparison::{Comparison, Pair};
-use posting::drawing::{Commitments, draw_over};
+use posting::drawing::{Challenger, Commitments, buffer_fits};
 use refusal::{Reason, Refusal};
 use source::{Source, c_of, z_of};
 
@@ -56,55 +57,56 @@ pub fn make_outputs<G: Group>(
     }
 }
 
-// Both z of a comparator.
-#[derive(Clone, Copy)]
-struct Folds<X> {
-    equivalence: X,
-    disjunction: X,
+// Draws a word for each proof of a comparator whose four questions begin at `first`: the two on which a z depends, or
+// with the offset 1 the two on which a challenge does.
+fn draw_both<G: Group, S: Source>(
+    challenger: &Challenger<'_, G, S>,
+    comparison: Comparison<G::Element>,
+    commitments: OfBoth<Commitments<G::Element>>,
+    first: u64,
+    offset: u64,
+    buffer: &mut [u8],
+) -> Result<OfBoth<u64>, Refusal>
+    requires { offset ≤ 1 }
+    ensures { Outcome (unready G.Group.operations (S.Source.words challenger.now.source.now) first (length buffer.old)) challenger.now.place
+        (λ w. (w.equivalence ≡ word_over G.Group.operations (S.Source.words challenger.now.source.now) (comparison_meaning G.Group.point comparison) (commitment_points G.Group.point commitments.equivalence) (first + offset))
+        × (w.disjunction ≡ word_over G.Group.operations (S.Source.words challenger.now.source.now) (comparison_meaning G.Group.point comparison) (commitment_points G.Group.point commitments.disjunction) (first + 2 + offset))) result }
+{
+    if !buffer_fits::<G>(buffer.len()) {
+        return Err(Reason::UnfitLength.at(challenger.place));
+    }
+    if !challenger.reaches(first) {
+        return Err(Reason::BeyondReach.at(challenger.place));
+    }
+    let question = first + offset;
+    let equivalence = challenger.draw_over(comparison, commitments.equivalence, question, buffer)?;
+    let question = first + 2 + offset;
+    let disjunction = challenger.draw_over(comparison, commitments.disjunction, question, buffer)?;
+    Ok(OfBoth {
+        equivalence,
+        disjunction,
+    })
 }
 
 // Draws both z.
 fn draw_folds<G: Group, S: Source>(
-    g: &G,
-    source: &S,
+    challenger: &Challenger<'_, G, S>,
     comparison: Comparison<G::Element>,
     question: u64,
     buffer: &mut [u8],
-    place: usize,
-) -> Result<Folds<G::Exponent>, Refusal>
-    ensures { Outcome (unready G.Group.operations (S.Source.words source.now) question (length buffer.old)) place
-        (λ z. (G.Exponent.Exponent.value z.equivalence ≡ equivalence_z G.Group.operations G.Exponent.Exponent.exponents (S.Source.words source.now) (comparison_meaning G.Group.point comparison) question)
-        × (G.Exponent.Exponent.value z.disjunction ≡ disjunction_z G.Group.operations G.Exponent.Exponent.exponents (S.Source.words source.now) (comparison_meaning G.Group.point comparison) question)) result }
+) -> Result<OfBoth<G::Exponent>, Refusal>
+    ensures { Outcome (unready G.Group.operations (S.Source.words challenger.now.source.now) question (length buffer.old)) challenger.now.place
+        (λ z. (G.Exponent.Exponent.value z.equivalence ≡ equivalence_z G.Group.operations G.Exponent.Exponent.exponents (S.Source.words challenger.now.source.now) (comparison_meaning G.Group.point comparison) question)
+        × (G.Exponent.Exponent.value z.disjunction ≡ disjunction_z G.Group.operations G.Exponent.Exponent.exponents (S.Source.words challenger.now.source.now) (comparison_meaning G.Group.point comparison) question)) result }
 {
-    if buffer.len() < 11 * g.code_width() {
-        return Err(Reason::UnfitLength.at(place));
-    }
-    if question.saturating_add(3) >= source.reach() {
-        return Err(Reason::BeyondReach.at(place));
-    }
-    let word = draw_over(
-        g,
-        source,
-        comparison,
-        Commitments::None,
-        question,
-        buffer,
-        place,
-    )?;
-    let equivalence = z_of::<G::Exponent>(word);
-    let word = draw_over(
-        g,
-        source,
-        comparison,
-        Commitments::None,
-        question + 2,
-        buffer,
-        place,
-    )?;
-    let disjunction = z_of::<G::Exponent>(word);
-    Ok(Folds {
-        equivalence,
-        disjunction,
+    let none = OfBoth {
+        equivalence: Commitments::None,
+        disjunction: Commitments::None,
+    };
+    let words = draw_both(challenger, comparison, none, question, 0, buffer)?;
+    Ok(OfBoth {
+        equivalence: z_of::<G::Exponent>(words.equivalence),
+        disjunction: z_of::<G::Exponent>(words.disjunction),
     })
 }
 
@@ -131,15 +133,13 @@ fn simulate<G: Group>(
 
 // Commits to both proofs, at four questions from `question` on. The buffer ends as zeros.
 pub fn commit<G: Group, S: Source>(
-    g: &G,
-    source: &S,
+    challenger: &Challenger<'_, G, S>,
     made: OutputsMade<G::Element, G::Exponent>,
     question: u64,
     buffer: &mut [u8],
-    place: usize,
 ) -> Result<Committed<G::Element, G::Exponent>, Refusal>
-    ensures outcome { Outcome (unready G.Group.operations (S.Source.words source.now) question (length buffer.old)) place
-        (λ c. committed_meaning G.Group.point G.Exponent.Exponent.value c ≡ committed G.Group.operations G.Exponent.Exponent.exponents (S.Source.words source.now) (made_meaning G.Group.point G.Exponent.Exponent.value made) question) result }
+    ensures outcome { Outcome (unready G.Group.operations (S.Source.words challenger.now.source.now) question (length buffer.old)) challenger.now.place
+        (λ c. committed_meaning G.Group.point G.Exponent.Exponent.value c ≡ committed G.Group.operations G.Exponent.Exponent.exponents (S.Source.words challenger.now.source.now) (made_meaning G.Group.point G.Exponent.Exponent.value made) question) result }
     ensures same_order { OnOk result (G.Group.operations.order ≡ G.Exponent.Exponent.exponents.order) }
     ensures cleared { buffer.new ≡ zeros 0 buffer.old }
 {
@@ -149,7 +149,8 @@ pub fn commit<G: Group, S: Source>(
         setting,
         secrets,
     } = made;
-    let z = draw_folds(g, source, comparison, question, buffer.places, place)?;
+    let g = challenger.group;
+    let z = draw_folds(challenger, comparison, question, buffer.places)?;
     let equivalence = g.raise(
         fold_key(g, comparison.key, z.equivalence),
         secrets.equivalence,
@@ -186,58 +187,28 @@ fn answer_of<X: Exponent>(e: X, c: u64, r: X) -> X
     e.add(X::from_word(c).multiply(r))
 }
 
-// Both challenges of a comparator.
-#[derive(Clone, Copy)]
-struct Challenges {
-    equivalence: u64,
-    disjunction: u64,
-}
-
 // Draws both challenges, over the commitments.
 fn draw_challenges<G: Group, S: Source>(
-    g: &G,
-    source: &S,
+    challenger: &Challenger<'_, G, S>,
     comparison: Comparison<G::Element>,
     w: G::Element,
     w1: G::Element,
     w2: G::Element,
     question: u64,
     buffer: &mut [u8],
-    place: usize,
-) -> Result<Challenges, Refusal>
-    ensures { Outcome (unready G.Group.operations (S.Source.words source.now) question (length buffer.old)) place
-        (λ c. (c.equivalence ≡ equivalence_challenge G.Group.operations G.Exponent.Exponent.exponents (S.Source.words source.now) (comparison_meaning G.Group.point comparison) (G.Group.point w) question)
-        × (c.disjunction ≡ disjunction_challenge G.Group.operations G.Exponent.Exponent.exponents (S.Source.words source.now) (comparison_meaning G.Group.point comparison) (G.Group.point w1) (G.Group.point w2) question)) result }
+) -> Result<OfBoth<u64>, Refusal>
+    ensures { Outcome (unready G.Group.operations (S.Source.words challenger.now.source.now) question (length buffer.old)) challenger.now.place
+        (λ c. (c.equivalence ≡ equivalence_challenge G.Group.operations G.Exponent.Exponent.exponents (S.Source.words challenger.now.source.now) (comparison_meaning G.Group.point comparison) (G.Group.point w) question)
+        × (c.disjunction ≡ disjunction_challenge G.Group.operations G.Exponent.Exponent.exponents (S.Source.words challenger.now.source.now) (comparison_meaning G.Group.point comparison) (G.Group.point w1) (G.Group.point w2) question)) result }
 {
-    if buffer.len() < 11 * g.code_width() {
-        return Err(Reason::UnfitLength.at(place));
-    }
-    if question.saturating_add(3) >= source.reach() {
-        return Err(Reason::BeyondReach.at(place));
-    }
-    let word = draw_over(
-        g,
-        source,
-        comparison,
-        Commitments::One(w),
-        question + 1,
-        buffer,
-        place,
-    )?;
-    let equivalence = c_of::<G::Exponent>(word);
-    let word = draw_over(
-        g,
-        source,
-        comparison,
-        Commitments::Two(w1, w2),
-        question + 3,
-        buffer,
-        place,
-    )?;
-    let disjunction = c_of::<G::Exponent>(word);
-    Ok(Challenges {
-        equivalence,
-        disjunction,
+    let commitments = OfBoth {
+        equivalence: Commitments::One(w),
+        disjunction: Commitments::Two(w1, w2),
+    };
+    let words = draw_both(challenger, comparison, commitments, question, 1, buffer)?;
+    Ok(OfBoth {
+        equivalence: c_of::<G::Exponent>(words.equivalence),
+        disjunction: c_of::<G::Exponent>(words.disjunction),
     })
 }
 
@@ -245,7 +216,7 @@ fn draw_challenges<G: Group, S: Source>(
 fn respond<E: Copy, X: Exponent>(
     setting: Setting,
     secrets: Secrets<X>,
-    c: Challenges,
+    c: OfBoth<u64>,
     w: E,
     w1: E,
     w2: E,
@@ -295,14 +266,12 @@ fn branch<E, N>(commitment: E, challenge: u64, answer: N) -> Branch<E, N>
 
 // Answers both challenges; the commitment is used up. The buffer ends as zeros.
 pub fn answer<G: Group, S: Source>(
-    g: &G,
-    source: &S,
+    challenger: &Challenger<'_, G, S>,
     committed: Committed<G::Element, G::Exponent>,
     buffer: &mut [u8],
-    place: usize,
 ) -> Result<Message<G::Element, <G::Exponent as Exponent>::Posted>, Refusal>
-    ensures outcome { Outcome (unready G.Group.operations (S.Source.words source.now) committed.question (length buffer.old)) place
-        (λ m. message_meaning G.Group.point G.Exponent.Exponent.number m ≡ answer_message G.Group.operations G.Exponent.Exponent.exponents (S.Source.words source.now) (committed_meaning G.Group.point G.Exponent.Exponent.value committed)) result }
+    ensures outcome { Outcome (unready G.Group.operations (S.Source.words challenger.now.source.now) committed.question (length buffer.old)) challenger.now.place
+        (λ m. message_meaning G.Group.point G.Exponent.Exponent.number m ≡ answer_message G.Group.operations G.Exponent.Exponent.exponents (S.Source.words challenger.now.source.now) (committed_meaning G.Group.point G.Exponent.Exponent.value committed)) result }
     ensures cleared { buffer.new ≡ zeros 0 buffer.old }
 {
     let buffer = Clearing { places: buffer };
@@ -319,15 +288,13 @@ pub fn answer<G: Group, S: Source>(
         secrets,
     } = made;
     let c = draw_challenges(
-        g,
-        source,
+        challenger,
         comparison,
         equivalence,
         first,
         second,
         question,
         buffer.places,
-        place,
     )?;
     Ok(Message {
         outputs: comparison.outputs,

@@ -4,4 +4,4 @@ use Rattle.butterfly.specs.Placing.{butterfly_is}
 use Rattle.butterfly.proofs.ButterflyPlan.comparator.Goals as goal
 
 pub returns : goal.returns
-returns c = c.listed.ensures ∙ sym (ap (λ cs. nth cs c.args.k) (butterfly_is c.args.self.now.levels))
+returns c = c.listed.ensures ∙ sym (ap (λ cs. nth cs c.args.k) (butterfly_is c.args.self.now.levels.count))

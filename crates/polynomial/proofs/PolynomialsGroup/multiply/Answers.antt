@@ -1,10 +1,7 @@
 use Rattle.std.proofs.Common.{ℕ, T, sym, subst}
 use Rattle.polynomial.specs.Laws.{nonzero_path}
-use Rattle.polynomial.specs.Polynomials.{nonzero, nonzero_below, product_nonzero}
+use Rattle.polynomial.specs.Polynomials.{nonzero, product_nonzero}
 use Rattle.polynomial.proofs.PolynomialsGroup.multiply.Goals as goal
-
-pub multiply-requires : goal.multiply-requires
-multiply-requires c = nonzero_below c.args.a.value c.args.a.nonzero
 
 pub invariant_of-result : goal.invariant_of-result
 invariant_of-result c =

@@ -1,20 +1,12 @@
-use Rattle.std.proofs.Common.{sym, ◌∙◌}
-use Rattle.witness.proofs.Draws.{stands_here, stands_after, stands_none}
+use Rattle.std.proofs.Common.{eqb, ◌∙◌, rules, tests}
+use Rattle.std.proofs.lemmas.Iterator.{YieldsList-from_slice}
+use Rattle.std.proofs.lemmas.Iterator.Search.{any_from_yields_List}
+use Rattle.witness.proofs.Draws.{any_stands}
 use Rattle.witness.proofs.reading.drawn_among.Goals as goal
-
-pub returns-then-same_posted : goal.returns-then-same_posted
-returns-then-same_posted g c =
-    sym (sym c.loop-witness.invariant
-    ∙ stands_here g.X.Exponent.number c.args.witnesses.now c.loop-witness.witness-index c.witness-item.result c.witness-item.is c.loop-witness-test.true
-    (g.X.Exponent.number c.args.z) (sym c.same_posted.ensures ∙ c.if-same_posted.true))
-
-pub loop-witness-preserved : goal.loop-witness-preserved
-loop-witness-preserved g c =
-    sym (stands_after g.X.Exponent.number c.args.witnesses.now c.loop-witness.witness-index c.witness-item.result c.witness-item.is c.loop-witness-test.true
-    (g.X.Exponent.number c.args.z) (sym c.same_posted.ensures ∙ c.if-same_posted.false))
-    ∙ c.loop-witness.invariant
 
 pub returns : goal.returns
 returns g c =
-    sym (sym c.loop-witness.invariant
-    ∙ stands_none g.X.Exponent.number c.args.witnesses.now c.loop-witness.witness-index c.loop-witness-test.false (g.X.Exponent.number c.args.z))
+    let number = g.X.Exponent.number in
+    let z = number c.args.z in
+    any_from_yields_List (λ w. eqb z (number w.z)) _ _ _ c.any.ensures.ran (YieldsList-from_slice c.args.witnesses.now cc) (λ x b q k. search (rules, tests))
+    ∙ any_stands number z c.args.witnesses.now

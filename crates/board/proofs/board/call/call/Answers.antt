@@ -1,5 +1,5 @@
-use Rattle.std.proofs.Common.{length, sym, refl, subst, arith, rules}
-use Rattle.board.proofs.Calling.{post_happens, close_happens, step_happens}
+use Rattle.std.proofs.Common.{◌∙◌, length, sym, refl, subst, leb-true, rules}
+use Rattle.board.proofs.Calling.{post_happens, step_happens}
 use Rattle.board.specs.Calls.{terms, event_meaning, Happens}
 use Rattle.board.specs.States.{view, state_map}
 use Rattle.board.specs.declared.events.Event.{Event}
@@ -20,19 +20,6 @@ returns-in-Gathering-Post g c =
       cleared = search rules;
     }
 
-pub returns-in-Gathering-Close : goal.returns-in-Gathering-Close
-returns-in-Gathering-Close g c =
-    let point = g.G.Group.point in
-    let b = c.args.board.now in
-    let T = terms g.G.Group.operations g.G.Exponent.Exponent.exponents (g.S.Source.words c.args.setup.now.source.now) (point b.key) (g.P.Plan.listing c.args.setup.now.plan.now) in
-    let bytes = length c.args.buffer.now in
-    let done = λ (e : Event g.row.G-Element.Denot _). Happens T (state_map (meaning point) (view b)) (event_meaning point g.G.Exponent.Exponent.number e) bytes c.close.result (state_map (meaning point) (view c.close.new.self)) in
-    record {
-      happens = subst done (sym c.in-Gathering-Close.is-1) (close_happens T point (view b) (view c.close.new.self) bytes c.close.result c.in-Gathering-Close.is-0 c.close.ensures.outcome);
-      key = c.close.ensures.key;
-      cleared = search rules;
-    }
-
 pub returns-in-Turning-Step : goal.returns-in-Turning-Step
 returns-in-Turning-Step g c =
     let point = g.G.Group.point in
@@ -41,10 +28,10 @@ returns-in-Turning-Step g c =
     let bytes = length c.args.buffer.now in
     let message = c.in_default-Step.field-0-1 in
     let m = message_meaning point g.G.Exponent.Exponent.number message in
-    let width = c.code_width.ensures in
+    let fits = leb-true _ _ (sym c.buffer_fits-fits.ensures ∙ c.if-not-fits.false) in
     let done = λ (e : Event g.row.G-Element.Denot _). Happens T (state_map (meaning point) (view b)) (event_meaning point g.G.Exponent.Exponent.number e) bytes c.step.result (state_map (meaning point) (view c.step.new.board)) in
     record {
-      happens = subst done (sym c.in_default-Step.is-1) (step_happens T point (view b) (view c.step.new.board) bytes m message.outputs refl c.step.result c.in-Turning-Step.is-0 (omega (arith, c.if-short.false)) c.step.ensures.happens);
+      happens = subst done (sym c.in_default-Step.is-1) (step_happens T point (view b) (view c.step.new.board) bytes m message.outputs refl c.step.result c.in-Turning-Step.is-0 fits c.step.ensures.happens);
       key = c.step.ensures.key;
       cleared = search rules;
     }

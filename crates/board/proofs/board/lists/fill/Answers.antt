@@ -1,5 +1,5 @@
 use Rattle.std.proofs.Common.{length, arith}
-use Rattle.board.proofs.Copies.{filled_more, filled_all}
+use Rattle.board.proofs.Filling.{filled_more, filled_all}
 use Rattle.board.proofs.board.lists.fill.Goals as goal
 
 pub loop-place-preserved : goal.loop-place-preserved

@@ -1,7 +1,0 @@
-use Rattle.std.proofs.Common.{◌≡◌, ◌-◌}
-use Rattle.plan.specs.Plans.{nth}
-use Rattle.chain.specs.Listing.{chain, chain_from}
-use Rattle.chain.proofs.listed.Given as goal
-
-abbrev pub invariant-loop-first : goal.invariant-loop-first
-invariant-loop-first l = nth (chain_from l.first (l.wires - l.first)) l.left ≡ nth (chain l.wires) l.k
