@@ -1,113 +1,153 @@
-ghost use Rattle.std.specs.Prelude.{◌≡◌, IfOk, string_bytes};
+// How a record is printed for people.
+ghost use Rattle.std.specs.Prelude.{Some};
 ghost use Rattle.roundfile.specs.Records.{content};
 ghost use Rattle.listround.specs.Lines.{opening_text, draws_text, post_text, outputs_text, product_text, branches_text, comparator_text, record_text, line_text};
 
 use roundfile::parts::{Comparator, Draws, Opening, Part, Post};
 use roundfile::reader::Entry;
 use roundfile::record::Record;
-use std::alloc::{AllocError, Global};
+use std::fmt;
 
-fn opening_text(heap: Global, opening: Opening) -> Result<String, AllocError>
-    ensures { IfOk result (λ text. string_bytes text ≡ opening_text opening) }
-{
-    let Opening {
-        group,
-        plan,
-        wires,
-        servers,
-        key,
-    } = opening;
-    format!(in heap; "opening group {group} plan {plan} wires {wires} servers {servers} key {key}")
-}
+// A record with its offset, or a part of one, as it is printed: each field by its name.
+#[derive(Clone, Copy)]
+pub struct Shown<T>(pub T);
 
-fn draws_text(heap: Global, draws: Part<'_, Draws>) -> Result<String, AllocError>
-    ensures { IfOk result (λ text. string_bytes text ≡ draws_text draws.entry.fields.map draws.entry.fields.bytes.now) }
-{
-    let count = draws.count();
-    let mut text = format!(in heap; "draws count {count} words")?;
-    for word in draws.words() {
-        write!(text, " {word}")?;
-    }
-    Ok(text)
-}
+// The parts of a comparator: its outputs, the proof of their product, and the two branches.
+#[derive(Clone, Copy)]
+struct Outputs(Comparator);
 
-fn post_text(heap: Global, post: Post) -> Result<String, AllocError>
-    ensures { IfOk result (λ text. string_bytes text ≡ post_text post) }
-{
-    let Post { alpha, beta } = post;
-    format!(in heap; "post alpha {alpha} beta {beta}")
-}
+#[derive(Clone, Copy)]
+struct Product(Comparator);
 
-fn outputs_text(heap: Global, message: &Comparator) -> Result<String, AllocError>
-    ensures { IfOk result (λ text. string_bytes text ≡ outputs_text message.now) }
-{
-    let Comparator {
-        first_alpha,
-        first_beta,
-        second_alpha,
-        second_beta,
-        ..
-    } = message;
-    format!(in heap;
-        "first_alpha {first_alpha} first_beta {first_beta} second_alpha {second_alpha} second_beta {second_beta}"
-    )
-}
+#[derive(Clone, Copy)]
+struct Branches(Comparator);
 
-fn product_text(heap: Global, message: &Comparator) -> Result<String, AllocError>
-    ensures { IfOk result (λ text. string_bytes text ≡ product_text message.now) }
-{
-    let Comparator {
-        product_commitment,
-        product_response,
-        ..
-    } = message;
-    format!(in heap; "product_commitment {product_commitment} product_response {product_response}")
-}
+impl fmt::Display for Shown<Opening> {
+    ghost output = { λ x. Some (opening_text x.0) };
 
-fn branches_text(heap: Global, message: &Comparator) -> Result<String, AllocError>
-    ensures { IfOk result (λ text. string_bytes text ≡ branches_text message.now) }
-{
-    let Comparator {
-        first_commitment,
-        second_commitment,
-        first_challenge,
-        second_challenge,
-        first_response,
-        second_response,
-        ..
-    } = message;
-    format!(in heap;
-        "first_commitment {first_commitment} second_commitment {second_commitment} first_challenge {first_challenge} second_challenge {second_challenge} first_response {first_response} second_response {second_response}"
-    )
-}
-
-fn comparator_text(heap: Global, message: Comparator) -> Result<String, AllocError>
-    ensures { IfOk result (λ text. string_bytes text ≡ comparator_text message) }
-{
-    let outputs = outputs_text(heap, &message)?;
-    let product = product_text(heap, &message)?;
-    let branches = branches_text(heap, &message)?;
-    format!(in heap; "comparator {outputs} {product} {branches}")
-}
-
-fn record_text(heap: Global, held: Record) -> Result<String, AllocError>
-    ensures { IfOk result (λ text. string_bytes text ≡ record_text (content held.entry)) }
-{
-    match held {
-        Record::Opening(part) => opening_text(heap, part.values()),
-        Record::Draws(part) => draws_text(heap, part),
-        Record::Post(part) => post_text(heap, part.values()),
-        Record::Comparator(part) => comparator_text(heap, part.values()),
-        Record::Close => String::from_str(heap, "close"),
-        Record::Expel => String::from_str(heap, "expel"),
+    fn fmt<W: fmt::Write>(&self, f: &mut fmt::Formatter<W>) -> fmt::Result {
+        let Opening {
+            group,
+            plan,
+            wires,
+            servers,
+            key,
+        } = self.0;
+        write!(
+            f,
+            "opening group {group} plan {plan} wires {wires} servers {servers} key {key}"
+        )
     }
 }
 
-// The line that is printed for a record: its offset, its kind, and each field by its name.
-pub fn line(heap: Global, entry: Entry) -> Result<String, AllocError>
-    ensures { IfOk result (λ text. string_bytes text ≡ line_text entry.entry.offset (content entry.entry.record)) }
-{
-    let offset = entry.offset;
-    let record = record_text(heap, entry.record)?;
-    format!(in heap; "{offset} {record}")
+impl fmt::Display for Shown<Part<'_, Draws>> {
+    ghost output = { λ x. Some (draws_text x.0.fields.map x.0.fields.bytes.now) };
+
+    fn fmt<W: fmt::Write>(&self, f: &mut fmt::Formatter<W>) -> fmt::Result {
+        let count = self.0.count();
+        write!(f, "draws count {count} words")?;
+        for word in self.0.words() {
+            write!(f, " {word}")?;
+        }
+        Ok(())
+    }
+}
+
+impl fmt::Display for Shown<Post> {
+    ghost output = { λ x. Some (post_text x.0) };
+
+    fn fmt<W: fmt::Write>(&self, f: &mut fmt::Formatter<W>) -> fmt::Result {
+        let Post { alpha, beta } = self.0;
+        write!(f, "post alpha {alpha} beta {beta}")
+    }
+}
+
+impl fmt::Display for Outputs {
+    ghost output = { λ x. Some (outputs_text x.0) };
+
+    fn fmt<W: fmt::Write>(&self, f: &mut fmt::Formatter<W>) -> fmt::Result {
+        let Comparator {
+            first_alpha,
+            first_beta,
+            second_alpha,
+            second_beta,
+            ..
+        } = self.0;
+        write!(
+            f,
+            "first_alpha {first_alpha} first_beta {first_beta} second_alpha {second_alpha} second_beta {second_beta}"
+        )
+    }
+}
+
+impl fmt::Display for Product {
+    ghost output = { λ x. Some (product_text x.0) };
+
+    fn fmt<W: fmt::Write>(&self, f: &mut fmt::Formatter<W>) -> fmt::Result {
+        let Comparator {
+            product_commitment,
+            product_response,
+            ..
+        } = self.0;
+        write!(
+            f,
+            "product_commitment {product_commitment} product_response {product_response}"
+        )
+    }
+}
+
+impl fmt::Display for Branches {
+    ghost output = { λ x. Some (branches_text x.0) };
+
+    fn fmt<W: fmt::Write>(&self, f: &mut fmt::Formatter<W>) -> fmt::Result {
+        let Comparator {
+            first_commitment,
+            second_commitment,
+            first_challenge,
+            second_challenge,
+            first_response,
+            second_response,
+            ..
+        } = self.0;
+        write!(
+            f,
+            "first_commitment {first_commitment} second_commitment {second_commitment} first_challenge {first_challenge} second_challenge {second_challenge} first_response {first_response} second_response {second_response}"
+        )
+    }
+}
+
+impl fmt::Display for Shown<Comparator> {
+    ghost output = { λ x. Some (comparator_text x.0) };
+
+    fn fmt<W: fmt::Write>(&self, f: &mut fmt::Formatter<W>) -> fmt::Result {
+        let outputs = Outputs(self.0);
+        let product = Product(self.0);
+        let branches = Branches(self.0);
+        write!(f, "comparator {outputs} {product} {branches}")
+    }
+}
+
+impl fmt::Display for Shown<Record<'_>> {
+    ghost output = { λ x. Some (record_text (content x.0)) };
+
+    fn fmt<W: fmt::Write>(&self, f: &mut fmt::Formatter<W>) -> fmt::Result {
+        match self.0 {
+            Record::Opening(part) => Shown(part.values()).fmt(f),
+            Record::Draws(part) => Shown(part).fmt(f),
+            Record::Post(part) => Shown(part.values()).fmt(f),
+            Record::Comparator(part) => Shown(part.values()).fmt(f),
+            Record::Close => f.write_str("close"),
+            Record::Expel => f.write_str("expel"),
+        }
+    }
+}
+
+impl fmt::Display for Shown<Entry<'_>> {
+    ghost output = { λ x. Some (line_text x.0.offset (content x.0.record)) };
+
+    fn fmt<W: fmt::Write>(&self, f: &mut fmt::Formatter<W>) -> fmt::Result {
+        let offset = self.0.offset;
+        let record = Shown(self.0.record);
+        write!(f, "{offset} {record}")
+    }
 }

@@ -2,12 +2,12 @@
 
 mod line;
 
-use line::line;
+use line::Shown;
 use roundfile::reader::Reader;
 use std::io;
 use std::io::Read;
 
-// Prints a line for each record of the file, up to its end or to the refusal.
+// Prints a line for each record of the file, up to its end or to the refusal, which is a line too and no error.
 fn list(rt: &HostRuntime, file: &[u8]) -> io::Result<()> {
     let mut reader = match Reader::new(file) {
         Ok(reader) => reader,
@@ -15,7 +15,7 @@ fn list(rt: &HostRuntime, file: &[u8]) -> io::Result<()> {
     };
     loop {
         match reader.next_record() {
-            Ok(Some(entry)) => rt.println(line(rt.alloc(), entry)?)?,
+            Ok(Some(entry)) => rt.println(Shown(entry))?,
             Ok(None) => return Ok(()),
             Err(refusal) => return println!(rt; "{refusal}"),
         }

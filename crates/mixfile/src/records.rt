@@ -1,4 +1,5 @@
-// The record of what an honest server posts for one comparator: codes in the place of elements.
+// The record of what an honest server posts for one comparator: codes in the place of elements. (What reads a record
+// goes the other way over the same structs, and answers that no element has a code; it is no twin of this.)
 ghost use Rattle.std.specs.Prelude.{◌≡◌, MatchResult};
 ghost use Rattle.elgamal.specs.Ciphertexts.{meaning};
 ghost use Rattle.equivalence.specs.Judgement.{branch_meaning, proofs_meaning};

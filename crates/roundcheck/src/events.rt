@@ -1,4 +1,5 @@
-// The call on a board that a record says, with the codes of elements first and then with the elements.
+// The call on a board that a record says, with the codes of elements first and then with the elements. These are
+// functions and no `From`: what they convert from and to are types of other crates.
 ghost use Rattle.std.specs.Prelude.{◌≡◌, ℕ, MatchResult};
 ghost use Rattle.board.specs.Calls.{event_meaning};
 ghost use Rattle.roundfile.specs.Records.{content};

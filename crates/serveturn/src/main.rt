@@ -33,6 +33,7 @@ where
     Ok(())
 }
 
+// By a loop: a word that is no number and want of memory are errors of two types, and `try_collect` takes one.
 fn numbers_of(heap: Global, line: &str) -> anyhow::Result<Vec<u64>> {
     let mut numbers = Vec::new(heap);
     for word in line.split_whitespace() {

@@ -26,7 +26,7 @@ pub(crate) fn kind_of<K: TryFrom<u32, Error = Reason>>(number: u64) -> Result<K,
     K::try_from(number).map_err(|reason| reason.at(0))
 }
 
-// So many words that look like chance.
+// So many words that look like chance. By a loop, since each is made of the one before.
 fn words_from(heap: Global, seed: u64, count: usize) -> Result<Vec<u64>, AllocError> {
     let mut words = Vec::new(heap);
     let mut word = seed;
