@@ -49,7 +49,8 @@ impl<G: Group, S: Source> Challenger<'_, G, S> {
         first.saturating_add(3) < self.source.reach()
     }
 
-    // Draws within a buffer that fits.
+    // Draws within a buffer that fits. That it does stands in the `requires` of each function inside a check or a turn: a
+    // type for it would pair the lent bytes with the group for this fact alone, and each of them would take it apart.
     fn draw_within(
         &self,
         comparison: Comparison<G::Element>,

@@ -28,7 +28,8 @@ use refusal::{Reason, Refusal};
 use source::Source;
 
 impl<'a, E: Copy> Board<'a, E> {
-    // What stands on a comparator's two wires.
+    // What stands on a comparator's two wires. That they are on the board is no fact of the comparator alone, so no type
+    // of its own holds it: it stands in the `requires` of what reads and writes there, as does that a turn is under way.
     pub(crate) fn inputs_on(&self, on: Comparator) -> Pair<E>
         requires first { on.first < length self.now.wires.now }
         requires second { on.second < length self.now.wires.now }
