@@ -19,8 +19,7 @@ use Rattle.drill.specs.Findings.{ordered, answer}
 use Rattle.drill.specs.Formula.{formula, conclusion}
 use Rattle.drill.specs.Meaning.{Reencrypts, Keeps, Shown}
 use Rattle.drill.specs.Rule.{AllEqual, TheKey, Concluded, Found, Drilled}
-use Rattle.drill.specs.declared.finding.Conclusion.{Conclusion}
-use Rattle.drill.specs.declared.finding.Conclusion.TheVariants.{Common, Key as KeyOf}
+use Rattle.drill.specs.declared.finding.KeyFound.{KeyFound}
 use Rattle.drill.specs.declared.finding.Finding.{Finding}
 use Rattle.drill.specs.declared.finding.Finding.TheVariants.{Key, Outputs}
 use Rattle.drill.specs.declared.finding.Reencryption.{Reencryption}
@@ -45,19 +44,19 @@ module _ {P : Type 0} {G : Operations P} (laws : GroupLaws G) {E : Exponents} (e
       where
         go : (a b : Bool) → eqb s.first.gamma s.second.gamma ≡ a → eqb s.second.gamma s.third.gamma ≡ b
             → ((AllEqual s → ⊥) → TheKey E s (formula E s))
-            → Concluded E s (elim (both a b) [ true ↦ Common s.first.gamma | false ↦ KeyOf (formula E s) ])
+            → Concluded E s (elim (both a b) [ true ↦ Ok s.first.gamma | false ↦ Err (record { key = formula E s }) ])
         go true true p r key = ((eqb-true _ _ p, eqb-true _ _ r), refl)
         go true false p r key = let n : AllEqual s → ⊥ = λ e. eqb-false _ _ r e.1 in (n, key n)
         go false b p r key = let n : AllEqual s → ⊥ = λ e. eqb-false _ _ p e.0 in (n, key n)
 
-    pub concluded_key : (x : ℕ) → Concluded E s (KeyOf x) → PrivateKey G y x
+    pub concluded_key : (x : ℕ) → Concluded E s (Err (record { key = x })) → PrivateKey G y x
     unfolding A B
     concluded_key x h = key_private laws exponents same s three.fit y A B three.first three.second three.third h.0 x h.1.fits
 
     times_back : (a b x : P) → quotient G a b ≡ x → a ≡ G.times b x
     times_back a b x e = solve laws [] (a ∷ b ∷ x ∷ []) (pt 0) (pt 1 · pt 2) (given unity (pt 0 · inv (pt 1)) (pt 2) ∷ []) (e, tt) refl
 
-    pub concluded_common : (γ : ℕ) → Concluded E s (Common γ) → (new ≡ reencrypted G y old γ) × (γ < E.order)
+    pub concluded_common : (γ : ℕ) → Concluded E s (Ok γ) → (new ≡ reencrypted G y old γ) × (γ < E.order)
     unfolding A B
     concluded_common γ h =
         let first = common_first laws exponents same s three.fit y A B three.first three.second three.third h.0 ∙ ap (power G y) (sym h.1) in
@@ -119,13 +118,13 @@ module _ {P : Type 0} {G : Operations P} (laws : GroupLaws G) {E : Exponents} (e
         subst (λ f. Shown G k (Ok f)) (sym h.1.joined)
         (go h.1.product h.1.branch h.1.product_shows h.1.branch_shows (product_samples laws exponents same k W V u) (branch_samples laws exponents same k W V u))
       where
-        go : (p b : Conclusion ℕ) → Concluded E (examination E W V).product p → Concluded E (examination E W V).branch.samples b
+        go : (p b : Result ℕ (KeyFound ℕ)) → Concluded E (examination E W V).product p → Concluded E (examination E W V).branch.samples b
             → Three laws exponents same k.key (multiplied G k.inputs.first k.inputs.second) (multiplied G k.outputs.first k.outputs.second) (examination E W V).product
             → Three laws exponents same k.key k.inputs.first (output_of k (examination E W V).branch.setting) (examination E W V).branch.samples
             → Shown G k (Ok (answer E p (examination E W V).branch.setting b))
-        go (KeyOf x) b hp hb tp tb = concluded_key k.key _ _ _ tp x hp
-        go (Common p) (KeyOf x) hp hb tp tb = concluded_key k.key _ _ _ tb x hb
-        go (Common p) (Common γ) hp hb tp tb =
+        go (Err found) b hp hb tp tb = concluded_key k.key _ _ _ tp found.key hp
+        go (Ok p) (Err found) hp hb tp tb = concluded_key k.key _ _ _ tb found.key hb
+        go (Ok p) (Ok γ) hp hb tp tb =
             let product = concluded_common k.key _ _ _ tp p hp in
             let branch = concluded_common k.key _ _ _ tb γ hb in
             keeps k (examination E W V).branch.setting p γ branch.1 product.0 branch.0

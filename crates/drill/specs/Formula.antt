@@ -1,13 +1,12 @@
 -- How the key is computed: by second differences, -top / bottom. The rule says which key it is.
-use Rattle.std.specs.Prelude.{ℕ, true, false, ◌==◌}
+use Rattle.std.specs.Prelude.{ℕ, true, false, Ok, Err, Result, ◌==◌}
 use Rattle.group.specs.Exponents.{Exponents, remainder, sum, difference, product}
 use Rattle.witness.specs.Refusals.{both}
 use Rattle.witness.specs.declared.samples.Examination.{Examination}
 use Rattle.witness.specs.declared.samples.Sample.{Sample}
 use Rattle.witness.specs.declared.samples.Samples.{Samples}
 use Rattle.drill.specs.Findings.{answer}
-use Rattle.drill.specs.declared.finding.Conclusion.{Conclusion}
-use Rattle.drill.specs.declared.finding.Conclusion.TheVariants.{Common, Key}
+use Rattle.drill.specs.declared.finding.KeyFound.{KeyFound}
 use Rattle.drill.specs.declared.finding.Finding.{Finding}
 
 module _ (E : Exponents) where
@@ -31,9 +30,9 @@ module _ (E : Exponents) where
   formula s = product E (difference E (remainder E 0) (top s)) (E.inverse (bottom s))
 
   -- the exponent of all three samples where it is one, else the key
-  abbrev pub conclusion : Samples ℕ → Conclusion ℕ
+  abbrev pub conclusion : Samples ℕ → Result ℕ (KeyFound ℕ)
   conclusion s =
-      elim (both (s.first.gamma == s.second.gamma) (s.second.gamma == s.third.gamma)) [ true ↦ Common s.first.gamma | false ↦ Key (formula s) ]
+      elim (both (s.first.gamma == s.second.gamma) (s.second.gamma == s.third.gamma)) [ true ↦ Ok s.first.gamma | false ↦ Err (record { key = formula s }) ]
 
   -- what is found by it
   abbrev pub computed : Examination ℕ → Finding ℕ

@@ -11,8 +11,7 @@ use Rattle.witness.specs.declared.samples.Examination.{Examination}
 use Rattle.witness.specs.declared.samples.Sample.{Sample}
 use Rattle.witness.specs.declared.samples.Samples.{Samples}
 use Rattle.drill.specs.Findings.{answer}
-use Rattle.drill.specs.declared.finding.Conclusion.{Conclusion}
-use Rattle.drill.specs.declared.finding.Conclusion.TheVariants.{Common, Key}
+use Rattle.drill.specs.declared.finding.KeyFound.{KeyFound}
 use Rattle.drill.specs.declared.finding.Finding.{Finding}
 
 -- the three exponents are one
@@ -39,14 +38,14 @@ module _ (E : Exponents) where
     pub only : (other : ℕ) → other < E.order → Fits s other → other ≡ x
 
   -- what three samples show
-  abbrev pub Concluded : Samples ℕ → Conclusion ℕ → Type 0
-  Concluded s (Common γ) = AllEqual s × (γ ≡ s.first.gamma)
-  Concluded s (Key x) = (AllEqual s → ⊥) × TheKey s x
+  abbrev pub Concluded : Samples ℕ → Result ℕ (KeyFound ℕ) → Type 0
+  Concluded s (Ok γ) = AllEqual s × (γ ≡ s.first.gamma)
+  Concluded s (Err found) = (AllEqual s → ⊥) × TheKey s found.key
 
   -- what is found: from the samples of the equivalence proof, and those of a branch of the disjunctive one
   pub record Found (e : Examination ℕ) (f : Finding ℕ) : Type 0 where
-    pub product : Conclusion ℕ
-    pub branch : Conclusion ℕ
+    pub product : Result ℕ (KeyFound ℕ)
+    pub branch : Result ℕ (KeyFound ℕ)
     pub product_shows : Concluded e.product product
     pub branch_shows : Concluded e.branch.samples branch
     pub joined : f ≡ answer E product e.branch.setting branch

@@ -2,9 +2,9 @@
 ghost use Rattle.std.specs.Prelude.{◌≡◌};
 ghost use Rattle.witness.specs.Samples.{sample_meaning, samples_meaning, examination_meaning};
 ghost use Rattle.drill.specs.Formula.{top, weighted, formula, conclusion, computed};
-ghost use Rattle.drill.specs.Findings.{conclusion_meaning, finding_meaning, answer};
+ghost use Rattle.drill.specs.Findings.{conclusion_meaning, finding_meaning, finding_of, answer};
 
-use crate::finding::{Conclusion, Finding, Reencryption};
+use crate::finding::{Conclusion, Finding, KeyFound, Reencryption};
 use group::Exponent;
 use plan::Setting;
 use witness::samples::{Branch, Examination, Sample, Samples};
@@ -65,9 +65,35 @@ pub fn conclude<X: Exponent>(samples: Samples<X>) -> Conclusion<X>
         third,
     } = samples;
     if first.gamma == second.gamma && second.gamma == third.gamma {
-        return Conclusion::Common(first.gamma);
+        return Ok(first.gamma);
     }
-    Conclusion::Key(key_of(samples))
+    let key = key_of(samples);
+    Err(KeyFound { key })
+}
+
+// The order and the exponents that both conclusions give, or the first key among them.
+fn order_outputs<X: Exponent>(
+    product: Conclusion<X>,
+    setting: Setting,
+    branch: Conclusion<X>,
+) -> Result<Reencryption<X>, KeyFound<X>>
+    ensures { finding_meaning X.Exponent.value (finding_of result) ≡ answer X.Exponent.exponents (conclusion_meaning X.Exponent.value product) setting (conclusion_meaning X.Exponent.value branch) }
+{
+    let p = product?;
+    let gamma = branch?;
+    let other = p.subtract(gamma);
+    Ok(match setting {
+        Setting::Straight => Reencryption {
+            setting,
+            r1: gamma,
+            r2: other,
+        },
+        Setting::Swapped => Reencryption {
+            setting,
+            r1: other,
+            r2: gamma,
+        },
+    })
 }
 
 // The answer to both conclusions: a key first, else the order and the exponents.
@@ -78,27 +104,7 @@ pub fn join<X: Exponent>(
 ) -> Finding<X>
     ensures { finding_meaning X.Exponent.value result ≡ answer X.Exponent.exponents (conclusion_meaning X.Exponent.value product) setting (conclusion_meaning X.Exponent.value branch) }
 {
-    let p = match product {
-        Conclusion::Key(x) => return Finding::Key(x),
-        Conclusion::Common(p) => p,
-    };
-    let gamma = match branch {
-        Conclusion::Key(x) => return Finding::Key(x),
-        Conclusion::Common(gamma) => gamma,
-    };
-    let other = p.subtract(gamma);
-    match setting {
-        Setting::Straight => Finding::Outputs(Reencryption {
-            setting,
-            r1: gamma,
-            r2: other,
-        }),
-        Setting::Swapped => Finding::Outputs(Reencryption {
-            setting,
-            r1: other,
-            r2: gamma,
-        }),
-    }
+    Finding::from(order_outputs(product, setting, branch))
 }
 
 // What is found from all samples.

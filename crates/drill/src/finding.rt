@@ -1,16 +1,18 @@
 // What a drill finds.
 ghost use Rattle.std.specs.Prelude.{◌≡◌};
-ghost use Rattle.drill.specs.Findings.{finding_meaning};
+ghost use Rattle.drill.specs.Findings.{finding_meaning, finding_of};
 
 use group::Exponent;
 use plan::Setting;
 
-// What three samples show: one exponent common to all, or a private key.
+// A private key that came to light.
 #[derive(Clone, Copy)]
-pub enum Conclusion<X> {
-    Common(X),
-    Key(X),
+pub struct KeyFound<X> {
+    pub key: X,
 }
+
+// What three samples show: one exponent common to all, or a private key.
+pub type Conclusion<X> = Result<X, KeyFound<X>>;
 
 // The outputs are the inputs re-encrypted: the order, and the exponent of each output.
 #[derive(Clone, Copy)]
@@ -25,6 +27,17 @@ pub struct Reencryption<X> {
 pub enum Finding<X> {
     Key(X),
     Outputs(Reencryption<X>),
+}
+
+impl<X> From<Result<Reencryption<X>, KeyFound<X>>> for Finding<X> {
+    ghost from_gives = { λ joined finding. finding ≡ finding_of joined };
+
+    fn from(joined: Result<Reencryption<X>, KeyFound<X>>) -> Finding<X> {
+        match joined {
+            Ok(outputs) => Finding::Outputs(outputs),
+            Err(found) => Finding::Key(found.key),
+        }
+    }
 }
 
 impl<X: Exponent> Finding<X> {

@@ -5,8 +5,7 @@ use Rattle.drill.proofs.Powers.{remainder_below}
 use Rattle.drill.proofs.Sampling.{output_of}
 use Rattle.drill.specs.Findings.{finding_meaning, ordered, answer}
 use Rattle.drill.specs.Rule.{Concluded, Found}
-use Rattle.drill.specs.declared.finding.Conclusion.{Conclusion}
-use Rattle.drill.specs.declared.finding.Conclusion.TheVariants.{Common, Key as KeyOf}
+use Rattle.drill.specs.declared.finding.KeyFound.{KeyFound}
 use Rattle.drill.specs.declared.finding.Finding.{Finding}
 use Rattle.drill.specs.declared.finding.Finding.TheVariants.{Outputs}
 use Rattle.elgamal.specs.Ciphertexts.{multiplied}
@@ -69,9 +68,9 @@ chosen_branch Straight γ a b c d e = refl
 chosen_branch Swapped γ a b c d e = refl
 
 -- samples of one exponent show it, and no key
-shows_common : (E : Exponents) (γ z1 z2 z3 : ℕ) (c : Conclusion ℕ) → Concluded E (three γ z1 z2 z3) c → c ≡ Common γ
-shows_common E γ z1 z2 z3 (Common g) h = ap Common h.1
-shows_common E γ z1 z2 z3 (KeyOf x) h = absurd (h.0 (refl, refl))
+shows_common : (E : Exponents) (γ z1 z2 z3 : ℕ) (c : Result ℕ (KeyFound ℕ)) → Concluded E (three γ z1 z2 z3) c → c ≡ Ok γ
+shows_common E γ z1 z2 z3 (Ok g) h = ap Ok h.1
+shows_common E γ z1 z2 z3 (Err found) h = absurd (h.0 (refl, refl))
 
 abbrev examined : (s : Setting) (p γ z1 z2 z3 : ℕ) → Examination ℕ
 examined s p γ z1 z2 z3 = record { product = three p z1 z2 z3; branch = record { setting = s; samples = three γ z1 z2 z3 } }

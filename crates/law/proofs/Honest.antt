@@ -1,5 +1,5 @@
 -- The honest round meets the law's premises: every call by computing, and its step by witnesses.
-use Rattle.std.proofs.Common.{◌≡◌, ℕ, zero, suc, ◌<◌, [], ◌∷◌, refl, subst, arith}
+use Rattle.std.proofs.Common.{◌≡◌, ℕ, zero, suc, ◌<◌, [], ◌∷◌, Ok, refl, subst, arith}
 use Rattle.board.specs.Rounds.{blank}
 use Rattle.board.specs.Serving.{honest_steps, after_steps}
 use Rattle.board.specs.States.{State, opened}
@@ -7,7 +7,6 @@ use Rattle.board.specs.Steps.{comparison_at}
 use Rattle.board.specs.declared.events.Stage.TheVariants.{Gathering, Turning}
 use Rattle.chain.specs.Rows.{chain_lawful}
 use Rattle.chain.specs.Listing.{chain, chain_from}
-use Rattle.drill.specs.declared.finding.Conclusion.TheVariants.{Common}
 use Rattle.elgamal.specs.declared.Ciphertext.{Ciphertext}
 use Rattle.equivalence.specs.Equations.{same_bytes, folded_key, folded_quotient}
 use Rattle.equivalence.specs.Judgement.{judge, judge_equations}
@@ -125,7 +124,7 @@ step_witnessed = record {
   found = record { setting = Swapped; r1 = 2; r2 = 4 };
   drilled = (
     refl,
-    record { product = Common 6; branch = Common 4; product_shows = ((refl, refl), refl); branch_shows = ((refl, refl), refl); joined = refl },
+    record { product = Ok 6; branch = Ok 4; product_shows = ((refl, refl), refl); branch_shows = ((refl, refl), refl); joined = refl },
   );
 }
 
