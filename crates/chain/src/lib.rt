@@ -123,6 +123,7 @@ fn set_rows(wanted: &mut [u8], settings: &mut [Setting])
     ensures { BringsFrom 0 (length wanted.old) settings.new (at wanted.old) }
 {
     let wires = wanted.len();
+    // By their places: of parts that a loop splits off one by one nothing would be known after it.
     let mut start = 0;
     for j in 0..wires {
         let row = wires - 1 - j;
