@@ -1,5 +1,4 @@
-// The record of what an honest server posts for one comparator: codes in the place of elements. (What reads a record
-// goes the other way over the same structs, and answers that no element has a code; it is no twin of this.)
+// The record of what an honest server posts for one comparator: codes in the place of elements.
 ghost use Rattle.std.specs.Prelude.{◌≡◌, MatchResult};
 ghost use Rattle.elgamal.specs.Ciphertexts.{meaning};
 ghost use Rattle.equivalence.specs.Judgement.{branch_meaning, proofs_meaning};
