@@ -75,10 +75,10 @@ fn run(rt: &HostRuntime) -> anyhow::Result<bool> {
 }
 
 fn main(rt: HostRuntime) -> anyhow::Result<ExitCode> {
-    match run(&rt) {
-        Ok(true) => Ok(ExitCode::SUCCESS),
-        // The refusal is printed: there is nothing more to say of it.
-        Ok(false) => Ok(ExitCode::FAILURE),
-        Err(error) => Err(error),
-    }
+    // Where the file was refused, the refusal is printed: there is nothing more to say of it.
+    Ok(if run(&rt)? {
+        ExitCode::SUCCESS
+    } else {
+        ExitCode::FAILURE
+    })
 }
