@@ -1,5 +1,5 @@
 -- A turn's honest steps, one more at a time.
-use Rattle.std.proofs.Common.{◌≡◌, ℕ, zero, suc, ◌+◌, ◌-◌, ◌*◌, ◌<◌, ◌≤◌, Bool, true, false, cond, eqb, List, [], ◌∷◌, ◌++◌, length, get_or, take, drop, set, Some, None, sym, refl, ap, ◌∙◌, ap₂, mul-suc, add-one, arith, length-set, length-take-le, take_all, drop-cons, drop-drop, ne_eqb, eqb-true}
+use Rattle.std.proofs.Common.{◌≡◌, ℕ, zero, suc, ◌+◌, ◌-◌, ◌*◌, ◌<◌, ◌≤◌, Bool, true, false, cond, eqb, List, [], ◌∷◌, ◌++◌, length, take, drop, set, Some, None, sym, refl, ap, ◌∙◌, ap₂, mul-suc, add-one, arith, length-set, length-take-le, take_all, drop-drop, ne_eqb, eqb-true}
 use Rattle.elgamal.specs.declared.Ciphertext.{Ciphertext}
 use Rattle.equivalence.specs.Judgement.{both}
 use Rattle.plan.specs.Plans.{nth}
@@ -58,20 +58,6 @@ module _ {X : Type 0} (count : ℕ) (s : State X) (a b : ℕ) (x y : X) where
       by : (t : Bool) (u v : State X) → length u.wires ≡ length s.wires → length v.wires ≡ length s.wires → length (cond t u v).wires ≡ length s.wires
       by true u v h k = h
       by false u v h k = k
-
--- six elements from a place on
-pub six_from : (xs : List ℕ) (a : ℕ) → a + 6 ≤ length xs
-    → get_or xs a 0 ∷ get_or xs (a + 1) 0 ∷ get_or xs (a + 2) 0 ∷ get_or xs (a + 3) 0 ∷ get_or xs (a + 4) 0 ∷ get_or xs (a + 5) 0 ∷ [] ≡ take 6 (drop a xs)
-six_from xs a h =
-    sym (ap (take 6) (one a (a + 1) (omega (arith, h)) refl ∙ ap (λ ys. get_or xs a 0 ∷ ys)
-    (one (a + 1) (a + 2) (omega (arith, h)) (omega arith) ∙ ap (λ ys. get_or xs (a + 1) 0 ∷ ys)
-    (one (a + 2) (a + 3) (omega (arith, h)) (omega arith) ∙ ap (λ ys. get_or xs (a + 2) 0 ∷ ys)
-    (one (a + 3) (a + 4) (omega (arith, h)) (omega arith) ∙ ap (λ ys. get_or xs (a + 3) 0 ∷ ys)
-    (one (a + 4) (a + 5) (omega (arith, h)) (omega arith) ∙ ap (λ ys. get_or xs (a + 4) 0 ∷ ys)
-    (one (a + 5) (a + 6) (omega (arith, h)) (omega arith))))))))
-  where
-    one : (i j : ℕ) → i < length xs → i + 1 ≡ j → drop i xs ≡ get_or xs i 0 ∷ drop j xs
-    one i j h e = drop-cons xs i 0 h ∙ ap (λ (n : ℕ). get_or xs i 0 ∷ drop n xs) (sym (add-one i) ∙ e)
 
 -- after k of a turn's honest steps
 pub record SoFar {P : Type 0} (T : Terms P) (ss : List Setting) (words : List ℕ) (s₀ : State (Ciphertext P)) (k : ℕ) (s : State (Ciphertext P)) : Type 0 where

@@ -3,7 +3,7 @@ use elgamal::Ciphertext;
 use plan::Comparator;
 use prover::states::Message;
 
-#[derive(Clone, Copy)]
+#[derive(Clone, Copy, PartialEq, Eq)]
 pub enum Stage {
     // quotes are posted
     Gathering,

@@ -144,7 +144,7 @@ impl Half {
         }
     }
 
-    // The setting of a pair whose first item goes through this half.
+    // The setting of a pair whose first item goes through this half. No From: what a half sets is a pair, by its first item.
     fn setting(self) -> Setting
         ensures { result ≡ setting_for (side self) }
     {
@@ -207,7 +207,9 @@ fn listed(levels: Levels, k: usize) -> Option<Comparator>
     }
 }
 
-// A permutation of pairs of wires and its inverse, in lent tables.
+// A permutation of pairs of wires and its inverse, in lent tables. The tables that are made of it have 64 places, of which the
+// callers lend on just those that count: a route allocates nothing, and an ArrayVec grows at its end alone, where these are
+// written out of order. `count` is half their length; it stands here since every bound below speaks of pairs, and not of ends.
 #[derive(Clone, Copy)]
 struct Pairs<'a> {
     count: usize,
@@ -257,7 +259,8 @@ impl Pairs<'_> {
     }
 }
 
-// Takes the pairs out, last first, and makes the partners of the two ends of each partners of each other.
+// Takes the pairs out, last first, and makes the partners of the two ends of each partners of each other. By numbers and not
+// over pairs of the table: what is written may lie in any pair.
 fn contract(table: &mut [u8])
     requires { Matching (length table.old / 2) (at table.old) }
     ensures { Contracted 0 (length table.old / 2) table.new (at table.old) }
@@ -286,7 +289,8 @@ fn first_half(table: &[u8], j: usize, halves: &[Half]) -> Half
     }
 }
 
-// Gives each pair its halves, first pair first.
+// Gives each pair its halves, first pair first. By numbers and not over pairs of places: a half is that of an end of any
+// earlier pair.
 fn assign(table: &[u8]) -> [Half; 64]
     requires { length table.now ≤ 64 }
     ensures { result ≡ assigned table.now 0 (length table.now / 2) (replicate 64 Even) }
@@ -334,7 +338,8 @@ fn set_layer(settings: &mut [Setting], halves: &[Half], first: usize)
     }
 }
 
-// Routes on half the wires, twice, between the first and the last pairs.
+// Routes on half the wires, twice, between the first and the last pairs. `there` and `back` have 64 places, as the width of
+// an array cannot be computed.
 fn route_over(levels: Levels, entries: &[u8], inverse: &[u8], settings: &mut [Setting])
     requires entries { length entries.now ≡ 2 ^ levels.count }
     requires inverse { length inverse.now ≡ 2 ^ levels.count }

@@ -65,6 +65,7 @@ impl Plan for Chain {
         }
         let shuffle = Shuffle::read(permutation, self.wires())?;
         let entries = shuffle.entries();
+        // 64 places, of which those that count are lent on: the width of an array cannot be computed
         let mut table = [0; 64];
         let wanted = &mut table[..entries.len()];
         wanted.copy_from_slice(entries);

@@ -37,6 +37,16 @@ fn a_wrong_response_is_refused(rt: HostRuntime) -> Result<(), Fail> {
 }
 
 #[test]
+fn a_round_that_goes_on_is_open(rt: HostRuntime) -> Result<(), Fail> {
+    let text = text_of(&rt, &TWO_QUOTES, &[])?;
+    assert_eq!(rt;
+        text.as_str(),
+        "round 1 1 2 1\npost 0 18 9\npost 1 1 2\nclose\nopen 0 1\n"
+    );
+    Ok(())
+}
+
+#[test]
 fn sixty_five_wires_are_refused(rt: HostRuntime) -> Result<(), Fail> {
     let text = text_of(&rt, &OPENING, &[0, 0, 0, 65, 0, 0, 0, 8])?;
     assert_eq!(rt; text.as_str(), "refused 7 opening 4\n");

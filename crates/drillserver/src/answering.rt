@@ -122,7 +122,7 @@ impl Fault {
 }
 
 impl Outputs {
-    // The branch that is proved: that of the output made from the first input.
+    // The branch that is proved: that of the output made from the first input. No From: it is one fact about the outputs.
     fn branch(self) -> Setting
         ensures { result ≡ proved_branch self }
     {
@@ -215,7 +215,7 @@ impl<G: Group> Maker<'_, G> {
     }
 
     // The witnesses of the equivalence proof.
-    pub fn equivalence_witnesses(
+    pub(crate) fn equivalence_witnesses(
         &self,
         heap: Global,
     ) -> Result<Vec<PostedEquivalenceWitness<G>>, AllocError>
@@ -225,7 +225,7 @@ impl<G: Group> Maker<'_, G> {
     }
 
     // The witnesses of the disjunctive proof.
-    pub fn disjunctive_witnesses(
+    pub(crate) fn disjunctive_witnesses(
         &self,
         heap: Global,
     ) -> Result<Vec<PostedDisjunctiveWitness<G>>, AllocError>

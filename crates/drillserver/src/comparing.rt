@@ -63,7 +63,7 @@ fn make_outputs<G: Group>(
     }
 }
 
-pub fn make_comparison<G: Group>(g: &G, task: Task) -> Comparison<G::Element>
+pub(crate) fn make_comparison<G: Group>(g: &G, task: Task) -> Comparison<G::Element>
     ensures { comparison_meaning G.Group.point result ≡ made_comparison G.Group.operations G.Exponent.Exponent.exponents task }
 {
     let secrets = Secrets::<G::Exponent>::from(task);

@@ -13,7 +13,7 @@ use std::alloc::Global;
 
 // Makes a comparator and its witnesses, and drills them. What an honest task is answered is its own order and
 // exponents, unless two of its z are equal.
-pub fn drill_task<G: Group>(
+pub(crate) fn drill_task<G: Group>(
     heap: Global,
     g: &G,
     task: Task,

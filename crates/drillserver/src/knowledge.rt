@@ -102,7 +102,7 @@ impl Fault {
 }
 
 // The exponent that answers for the product at z.
-pub fn product_gamma<X: Exponent>(task: Task, z: X) -> X
+pub(crate) fn product_gamma<X: Exponent>(task: Task, z: X) -> X
     ensures { X.Exponent.value result ≡ product_answering X.Exponent.exponents task (X.Exponent.value z) }
 {
     let secrets = Secrets::<X>::from(task);
@@ -110,7 +110,7 @@ pub fn product_gamma<X: Exponent>(task: Task, z: X) -> X
 }
 
 // The exponent that answers for the output that was made from the first input, at z.
-pub fn branch_gamma<X: Exponent>(task: Task, z: X) -> X
+pub(crate) fn branch_gamma<X: Exponent>(task: Task, z: X) -> X
     ensures { X.Exponent.value result ≡ branch_answering X.Exponent.exponents task (X.Exponent.value z) }
 {
     let secrets = Secrets::<X>::from(task);

@@ -1,15 +1,13 @@
 // A line of the input: GROUP X KIND R1 R2 SEED.
-ghost use Rattle.kinds.specs.Kinds.{IsNamedGroup};
-
 use crate::task::{Kind, Task};
 use kinds::GroupKind;
 use refusal::Reason;
 use std::str::{FromStr, SplitWhitespace};
 
-// A task, and the number of the group that it is in.
+// A task, and the group that it is in.
 #[derive(Clone, Copy)]
 pub struct Line {
-    pub group: u64,
+    pub group: GroupKind,
     pub task: Task,
 }
 
@@ -21,23 +19,22 @@ where
     words.next()?.parse().ok()
 }
 
-fn read_words(words: &mut SplitWhitespace<'_>) -> Option<Line> {
+// The group's number and the task; none where one of the six words is missing or unfit.
+fn read_words(words: &mut SplitWhitespace<'_>) -> Option<(u64, Task)> {
     let group = next_word(words)?;
     let private = next_word(words)?;
     let kind = next_word::<Kind>(words)?;
     let r1 = next_word(words)?;
     let r2 = next_word(words)?;
     let seed = next_word(words)?;
-    Some(Line {
-        group,
-        task: Task {
-            kind,
-            private,
-            r1,
-            r2,
-            seed,
-        },
-    })
+    let task = Task {
+        kind,
+        private,
+        r1,
+        r2,
+        seed,
+    };
+    Some((group, task))
 }
 
 // What follows the six words is not read.
@@ -45,16 +42,8 @@ impl FromStr for Line {
     type Err = Reason;
 
     fn from_str(text: &str) -> Result<Line, Reason> {
-        read_words(&mut text.split_whitespace()).ok_or(Reason::ShortRecord)
-    }
-}
-
-impl Line {
-    // The group that the number names; a number of more than 32 bits names none.
-    pub fn group_kind(self) -> Result<GroupKind, Reason>
-        ensures { IsNamedGroup self.group result }
-    {
-        let number = u32::try_from(self.group).map_err(|_| Reason::UnknownGroupOrPlan)?;
-        GroupKind::try_from(number)
+        let (number, task) = read_words(&mut text.split_whitespace()).ok_or(Reason::ShortRecord)?;
+        let group = GroupKind::try_from(number)?;
+        Ok(Line { group, task })
     }
 }

@@ -48,7 +48,8 @@ where
 // Drills the task of one line.
 fn drill_line(heap: Global, text: &str) -> Result<Found, Failure> {
     let line = text.parse::<Line>().map_err(|why| why.at(0))?;
-    match line.group_kind().map_err(|why| why.at(0))? {
+    // a group is a type, with an element type of its own: no closure takes a function over types
+    match line.group {
         GroupKind::ResiduesModulo23 => drill_in(heap, &RESIDUES_MODULO_23, line.task),
         GroupKind::BinaryPolynomials => drill_in(heap, &Polynomials, line.task),
     }

@@ -58,7 +58,7 @@ impl FromStr for Kind {
 }
 
 // The number that comes j after the seed, and after the highest the lowest.
-pub fn word_of(seed: u64, j: u64) -> u64
+pub(crate) fn word_of(seed: u64, j: u64) -> u64
     ensures { result ≡ word seed j }
 {
     seed.wrapping_add(j)

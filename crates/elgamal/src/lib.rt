@@ -20,6 +20,8 @@ pub struct Ciphertext<E> {
 
 impl<E: Drop> Ciphertext<E> {
     // The ciphertext whose parts a step makes of these, or what the step fails with.
+    // That a step can always be called is asked of it here and in each `try_map` of the crates above: it is no
+    // fact of a value of ours.
     pub fn try_map<T: Drop, R, F: Fn(E) -> Result<T, R>>(self, step: &F) -> Result<Ciphertext<T>, R>
         requires { F.IsAlwaysCallable step.now }
         ensures { MatchResult result (CiphertextMapped (F.post step.now) self) (CiphertextUnmapped (F.post step.now) self) }

@@ -23,7 +23,8 @@ use posting::drawing::{Challenger, Commitments, buffer_fits};
 use refusal::{Reason, Refusal};
 use source::{Source, c_of, z_of};
 
-// What one proof drew: its z and its challenge.
+// What one proof drew: its z and its challenge. In the functions below a comparison and a buffer stand beside the challenger,
+// and in no struct: the buffer is lent anew for each proof, and the contracts say of it what it is afterwards.
 #[derive(Clone, Copy)]
 struct ProofDraws<X> {
     z: X,

@@ -131,7 +131,8 @@ pub trait Group {
         done
     }
 
-    // Whether two elements mean one point.
+    // Whether two elements mean one point. No `==` of the elements: handles that differ may mean one point, and only the
+    // group can tell.
     fn equals(&self, a: Self::Element, b: Self::Element) -> bool
         ensures same { result ≡ true → point a ≡ point b }
         ensures told { point a ≡ point b → result ≡ true };

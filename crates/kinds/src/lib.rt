@@ -20,12 +20,13 @@ pub enum PlanKind {
     Butterfly,
 }
 
-impl TryFrom<u32> for GroupKind {
+// A number of any width, since the programs read wider ones than a file has.
+impl TryFrom<u64> for GroupKind {
     type Error = Reason;
 
     ghost try_from_gives = { IsNamedGroup };
 
-    fn try_from(number: u32) -> Result<GroupKind, Reason> {
+    fn try_from(number: u64) -> Result<GroupKind, Reason> {
         match number {
             1 => Ok(GroupKind::ResiduesModulo23),
             2 => Ok(GroupKind::BinaryPolynomials),
@@ -34,12 +35,12 @@ impl TryFrom<u32> for GroupKind {
     }
 }
 
-impl TryFrom<u32> for PlanKind {
+impl TryFrom<u64> for PlanKind {
     type Error = Reason;
 
     ghost try_from_gives = { IsNamedPlan };
 
-    fn try_from(number: u32) -> Result<PlanKind, Reason> {
+    fn try_from(number: u64) -> Result<PlanKind, Reason> {
         match number {
             1 => Ok(PlanKind::Chain),
             2 => Ok(PlanKind::Butterfly),

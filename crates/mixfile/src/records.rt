@@ -47,7 +47,7 @@ fn challenge_of(challenge: u64) -> Result<u32, Reason>
     u32::try_from(challenge).map_err(|_| Reason::UnfitNumber)
 }
 
-// The record that posts these codes.
+// The record that posts these codes. It is no TryFrom: both types are other crates'.
 pub(crate) fn record_of(codes: Message<u32, u32>) -> Result<Comparator, Reason>
     ensures { MatchResult result (λ c. message_of c ≡ codes) Stopped }
 {

@@ -61,7 +61,8 @@ fn lengths_fit<P: Plan>(plan: &P, permutation: usize, words: usize) -> bool
     permutation == plan.wires() && words == 6 * plan.count()
 }
 
-// Judges a turn before its first step, and writes its settings into the lent places.
+// Judges a turn before its first step, and writes its settings into the lent places. The lines and the standing are no one
+// struct: a report has an ending beside its lines, which may be a refusal, and no turn is judged after one.
 fn judge_turn<P: Plan>(
     plan: &P,
     lines: &[Line],

@@ -33,7 +33,8 @@ fn line_end(bytes: &[u8]) -> Option<usize>
         .position(|byte| *byte == b'\n')
 }
 
-// The numbers before the slash; none where a part is no number, or there is no slash.
+// The numbers before the slash; none where a part is no number, or there is no slash. That is an answer to the line; the
+// error is want of memory, which ends the program.
 fn read_permutation(
     rt: &HostRuntime,
     parts: &mut SplitWhitespace<'_>,

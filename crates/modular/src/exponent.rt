@@ -14,8 +14,8 @@ pub trait PrimeOrder<const Q: u32, const L: u32>: Copy {
     ghost tested: { T (order_test Q L) };
 }
 
-// An exponent: a number below Q. Its `Clone` is written by hand, since the language derives none for a generic struct
-// with a ghost field.
+// An exponent: a number below Q. `Clone` and `Copy` are written by hand: where a struct has both a type parameter and a
+// ghost field, the language derives neither, by `derive` or by `derive_where`.
 #[derive_where(PartialEq)]
 pub struct Modular<const Q: u32, const L: u32, M> {
     value: u32,

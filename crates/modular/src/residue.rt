@@ -44,7 +44,8 @@ impl<const P: u32, const Q: u32, const G: u32, const L: u32, M: Subgroup<P, Q, G
     L,
     M,
 > {
-    // The element that a number is; none where it is no element.
+    // The element that a number is; none where it is no element. No TryFrom: its error would tell nothing more, and every
+    // caller wants an Option.
     fn element(number: u32) -> Option<Residue<P, Q>>
         ensures { MatchOption result (T (member P Q number) → ⊥) (λ e. e.value ≡ number) }
     {

@@ -131,7 +131,8 @@ pub fn run_plan<P: Plan, T>(plan: &P, settings: &[Setting], items: &mut [T]) -> 
     Ok(())
 }
 
-// A permutation of at most 64 wires and its inverse, as tables whose first entries count.
+// A permutation of at most 64 wires and its inverse, as tables whose first entries count. No Vec, since a route allocates
+// nothing; and no ArrayVec, which grows at its end alone, where the inverse is written at the places that the entries name.
 #[derive(Clone, Copy)]
 pub struct Shuffle {
     wires: usize,

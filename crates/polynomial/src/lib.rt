@@ -59,7 +59,8 @@ impl fmt::Display for Polynomial {
     }
 }
 
-// The element that a number is; none where it is no element.
+// The element that a number is; none where it is no element. No TryFrom: its error would tell nothing more, and every caller
+// wants an Option.
 fn element(number: u32) -> Option<Polynomial>
     ensures { MatchOption result (T (nonzero number) → ⊥) (λ e. e.value ≡ number) }
 {

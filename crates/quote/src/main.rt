@@ -11,10 +11,10 @@ use sealing::{Sealing, seal};
 use std::fmt;
 use std::str::{FromStr, SplitWhitespace};
 
-// A line: the group's number, and what is to be sealed.
+// A line: the group, and what is to be sealed.
 #[derive(Clone, Copy)]
 struct Line {
-    group: u32,
+    group: GroupKind,
     sealing: Sealing,
 }
 
@@ -33,14 +33,14 @@ fn numbers_of(text: &str) -> Option<[u32; 5]> {
     words.next().is_none().then_some(numbers)
 }
 
-// A line that has not just five numbers is short of its fields.
+// A line that has not just five numbers is short of its fields; then its group must be one that is known.
 impl FromStr for Line {
     type Err = Reason;
 
     fn from_str(text: &str) -> Result<Line, Reason> {
         let [group, private, message, gamma, r] = numbers_of(text).ok_or(Reason::ShortRecord)?;
         Ok(Line {
-            group,
+            group: GroupKind::try_from(group as u64)?,
             sealing: Sealing {
                 private,
                 message,
@@ -51,7 +51,7 @@ impl FromStr for Line {
     }
 }
 
-// Prints what was sealed, or the refusal.
+// Prints what was sealed, or the refusal: a refusal is printed as the line's answer, and is no error of the program.
 fn print<D: fmt::Display + Drop>(
     rt: &HostRuntime,
     answer: Result<D, Refusal>,
@@ -65,14 +65,15 @@ fn print<D: fmt::Display + Drop>(
 
 // Answers one line.
 fn answer(rt: &HostRuntime, text: &str) -> anyhow::Result<()> {
+    // by a match and not by `?`: a refusal is printed as the line's answer, and is no error of the program
     let line = match text.parse::<Line>() {
         Ok(line) => line,
         Err(reason) => return Ok(rt.println(reason.at(0))?),
     };
-    match GroupKind::try_from(line.group) {
-        Ok(GroupKind::ResiduesModulo23) => print(rt, seal(&RESIDUES_MODULO_23, line.sealing)),
-        Ok(GroupKind::BinaryPolynomials) => print(rt, seal(&Polynomials, line.sealing)),
-        Err(reason) => Ok(rt.println(reason.at(0))?),
+    // a group is a type, with an element type of its own: no closure takes a function over types
+    match line.group {
+        GroupKind::ResiduesModulo23 => print(rt, seal(&RESIDUES_MODULO_23, line.sealing)),
+        GroupKind::BinaryPolynomials => print(rt, seal(&Polynomials, line.sealing)),
     }
 }
 

@@ -25,8 +25,8 @@ impl From<Refusal> for Failure {
 impl From<AllocError> for Failure {
     ghost from_gives = { λ error failure. failure ≡ NoMemory error };
 
-    fn from(error: AllocError) -> Failure {
-        Failure::NoMemory(error)
+    fn from(no_memory: AllocError) -> Failure {
+        Failure::NoMemory(no_memory)
     }
 }
 

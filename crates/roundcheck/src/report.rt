@@ -74,7 +74,7 @@ impl fmt::Display for Line {
     }
 }
 
-// The word of a verdict.
+// The word of a verdict. It is no Display: the type is the board's, and the words are the report's.
 fn word_of(verdict: Verdict) -> &'static str
     ensures { result.now ≡ verdict_text verdict }
 {

@@ -92,7 +92,8 @@ pub fn repeated<T: Copy>(heap: Global, item: T, count: usize) -> Result<Vec<T>, 
 }
 
 impl<'a> OpenedFile<'a> {
-    // Opens a board on a plan, and goes on with what is behind the opening.
+    // Opens a board on a plan, and goes on with what is behind the opening. Heap, lines and end are handed on from function to
+    // function and not as one struct: the lines are lent, and the contracts say of them what they are afterwards.
     fn finish_on<G: Group, P: Plan, F: Finish>(
         self,
         heap: Global,
@@ -150,7 +151,7 @@ impl<'a> OpenedFile<'a> {
             opening,
             ..
         } = self;
-        let kind = PlanKind::try_from(opening.plan).map_err(|reason| reason.at(offset))?;
+        let kind = PlanKind::try_from(opening.plan as u64).map_err(|reason| reason.at(offset))?;
         let plan = KnownPlan::new(kind, opening.wires as usize).map_err(|refusal| refusal
             .reason
             .at(offset))?;
@@ -174,7 +175,8 @@ pub fn finish_file<F: Finish>(
         opening,
         reader,
     };
-    match GroupKind::try_from(opening.group).map_err(|reason| reason.at(offset))? {
+    // a group is a type, with an element type of its own: no closure takes a function over types
+    match GroupKind::try_from(opening.group as u64).map_err(|reason| reason.at(offset))? {
         GroupKind::ResiduesModulo23 => opened.finish_in(heap, &RESIDUES_MODULO_23, lines, end),
         GroupKind::BinaryPolynomials => opened.finish_in(heap, &Polynomials, lines, end),
     }

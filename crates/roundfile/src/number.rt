@@ -2,7 +2,8 @@ ghost use Rattle.std.specs.Prelude.{◌≡◌};
 ghost use Rattle.std.specs.Option.{option_map};
 ghost use Rattle.roundfile.specs.Number.{bytes_at, number_at};
 
-// So many bytes from `start` on; none where the bytes end before.
+// So many bytes from `start` on; none where the bytes end before. The start is an argument here and below, since a record's
+// fields are read in any order.
 fn bytes_at<const N: usize>(bytes: &[u8], start: usize) -> Option<[u8; N]>
     ensures { result ≡ bytes_at N bytes.now start }
 {

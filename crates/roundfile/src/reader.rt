@@ -31,7 +31,8 @@ pub struct Entry<'a> {
 #[derive(Clone, Copy)]
 pub struct Reader<'a> {
     stage: Stage,
-    // the file's length, and what of the file is still to be read
+    // the file's length, from which offsets are told, and what of the file is still to be read: what is left of a slice
+    // does not tell how long the whole was
     end: usize,
     rest: &'a [u8],
 }

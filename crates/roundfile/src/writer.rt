@@ -11,7 +11,8 @@ use refusal::{Reason, Refusal};
 // The map in which every bit of a comparator stands.
 const ALL_COMPARATOR_FIELDS: u16 = 0x0FFF;
 
-// Writes a number into the four bytes from `start` on.
+// Writes a number into the four bytes from `start` on. By a start and no slice of just these bytes, since the contract says
+// what becomes of the whole buffer.
 fn write_number(buffer: &mut [u8], start: usize, number: u32)
     requires { start + 4 ≤ length buffer.old }
     ensures { buffer.new ≡ take start buffer.old ++ (four_bytes number ++ drop (start + 4) buffer.old) }
@@ -51,7 +52,7 @@ fn write_record(buffer: &mut [u8], kind: Kind, map: u16, numbers: &[u32]) -> Res
 }
 
 impl Comparator {
-    // The fields from bit 0 up.
+    // The fields from bit 0 up. It is a method and no From for arrays, which would not tell by its name which field is first.
     fn numbers(&self) -> [u32; 12]
         ensures { result ≡ numbers_of self.now }
     {

@@ -1,16 +1,13 @@
 #![tactic(auto)]
 
-ghost use Rattle.std.specs.Prelude.{◌≡◌, ℕ, ◌<◌, IfOk, MatchResult};
+ghost use Rattle.std.specs.Prelude.{◌≡◌, ℕ, ◌<◌, IfOk};
 ghost use Rattle.std.specs.List.{range_with_len};
 ghost use Rattle.plan.specs.Plans.{Brings};
-ghost use Rattle.kinds.specs.Kinds.{plan_kind};
-ghost use Rattle.refusal.specs.Table.{refused_at};
-ghost use Rattle.refusal.specs.declared.Reason.TheVariants.{UnknownGroupOrPlan};
 
 use anyhow::anyhow;
 use kinds::{KnownPlan, PlanKind};
 use plan::{Plan, Setting, run_plan};
-use refusal::{Failure, Reason, Refusal};
+use refusal::{Failure, Reason};
 use std::alloc::{AllocError, Global};
 use std::fmt;
 
@@ -54,22 +51,13 @@ fn route_on<P: Plan>(heap: Global, plan: &P, entries: &[usize]) -> Result<Answer
     Ok(Answer { settings, brought })
 }
 
-// The kind of plan of this number.
-fn kind_of(number: usize) -> Result<PlanKind, Refusal>
-    ensures { MatchResult result (λ kind. plan_kind number ≡ Some kind) (λ e. (plan_kind number ≡ None) × (e ≡ refused_at UnknownGroupOrPlan 0)) }
-{
-    u32::try_from(number)
-        .ok()
-        .and_then(|number| PlanKind::try_from(number).ok())
-        .ok_or(Reason::UnknownGroupOrPlan.at(0))
-}
-
 // A line: the plan's number, the number of wires, the entries.
 fn route_line(heap: Global, numbers: &[usize]) -> Result<Answer, Failure> {
     let [number, wires, entries @ ..] = numbers else {
         return Err(Failure::from(Reason::ShortRecord.at(0)));
     };
-    let plan = KnownPlan::new(kind_of(*number)?, *wires)?;
+    let kind = PlanKind::try_from(*number as u64).map_err(|reason| reason.at(0))?;
+    let plan = KnownPlan::new(kind, *wires)?;
     route_on(heap, &plan, entries)
 }
 

@@ -9,7 +9,7 @@ fn mixed(sum: usize, part: usize) -> usize {
     sum.wrapping_mul(31).wrapping_add(part)
 }
 
-// The whole listing, comparator by comparator.
+// The whole listing, comparator by comparator: asked for by number, since just that is timed.
 fn listed<P: Plan>(plan: &P, mut sum: usize) -> usize {
     for k in 0..plan.count() {
         if let Some(comparator) = plan.comparator(k) {

@@ -12,7 +12,7 @@ use polynomial::Polynomials;
 use refusal::{Failure, Reason};
 use std::alloc::Global;
 use std::fmt;
-use turn::{Round, kind_of, serve_on};
+use turn::{Round, serve_on};
 
 // Serves on the plan of this number, and prints what the wires open to.
 fn answer_in<G: Group>(rt: &HostRuntime, group: &G, plan: u64, round: Round) -> anyhow::Result<()>
@@ -33,13 +33,10 @@ where
     Ok(())
 }
 
-// By a loop: a word that is no number and want of memory are errors of two types, and `try_collect` takes one.
 fn numbers_of(heap: Global, line: &str) -> anyhow::Result<Vec<u64>> {
-    let mut numbers = Vec::new(heap);
-    for word in line.split_whitespace() {
-        numbers.push(word.parse::<u64>()?)?;
-    }
-    Ok(numbers)
+    line.split_whitespace()
+        .map(|word| Ok(word.parse::<u64>()?))
+        .try_collect(heap)
 }
 
 // Answers one line.
@@ -57,10 +54,11 @@ fn answer(rt: &HostRuntime, text: &str) -> anyhow::Result<()> {
         seed: *seed,
         permutation: entries.as_slice(),
     };
-    match kind_of::<GroupKind>(*group) {
+    // a group is a type, with an element type of its own: no closure takes a function over types
+    match GroupKind::try_from(*group) {
         Ok(GroupKind::ResiduesModulo23) => answer_in(rt, &RESIDUES_MODULO_23, *plan, round),
         Ok(GroupKind::BinaryPolynomials) => answer_in(rt, &Polynomials, *plan, round),
-        Err(refusal) => Ok(rt.println(refusal)?),
+        Err(reason) => Ok(rt.println(reason.at(0))?),
     }
 }
 

@@ -7,7 +7,7 @@ use board::events::Event;
 use board::setup::Setup;
 use elgamal::{Ciphertext, decrypt, encrypt};
 use group::{Exponent, Group};
-use kinds::KnownPlan;
+use kinds::{KnownPlan, PlanKind};
 use plan::{Plan, Setting};
 use refusal::{Failure, Reason, Refusal};
 use source::{Source, Tape};
@@ -18,12 +18,6 @@ pub(crate) struct Round<'a> {
     pub private: u64,
     pub seed: u64,
     pub permutation: &'a [usize],
-}
-
-// The group or the plan that a number of a line names.
-pub(crate) fn kind_of<K: TryFrom<u32, Error = Reason>>(number: u64) -> Result<K, Refusal> {
-    let number = u32::try_from(number).map_err(|_| Reason::UnknownGroupOrPlan.at(0))?;
-    K::try_from(number).map_err(|reason| reason.at(0))
 }
 
 // So many words that look like chance. By a loop, since each is made of the one before.
@@ -79,7 +73,8 @@ pub(crate) fn serve_on<G: Group>(
     plan: u64,
     round: Round,
 ) -> Result<Vec<G::Element>, Failure> {
-    let plan = KnownPlan::new(kind_of(plan)?, round.permutation.len())?;
+    let kind = PlanKind::try_from(plan).map_err(|reason| reason.at(0))?;
+    let plan = KnownPlan::new(kind, round.permutation.len())?;
     let private = G::Exponent::from_word(round.private);
     let key = group.raise(group.generator(), private);
     let mut wires = blank(heap, group, plan.wires())?;

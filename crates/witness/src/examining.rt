@@ -56,7 +56,7 @@ fn check_witness<P: Proof>(
     Ok(())
 }
 
-// Refuses the witnesses of one proof, which have the places from `start` on.
+// Refuses the witnesses of one proof, which have the places from `start` on: a slice does not tell where in a list it lies.
 fn check_witnesses<P: Proof>(
     proof: &P,
     witnesses: &[Witness<<P::Exponent as Exponent>::Posted, P::Posted>],

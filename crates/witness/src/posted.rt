@@ -20,7 +20,7 @@ pub struct Transcript<E, N> {
 }
 
 impl<E: Copy, N: Copy> Transcript<E, N> {
-    // The challenges of both answers.
+    // The challenges of both answers. No From: challenges are a part of a transcript, and not what it is converted to.
     pub(crate) fn challenges(self) -> Challenges
         ensures { result ≡ transcript_challenges self }
     {

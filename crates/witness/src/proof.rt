@@ -65,7 +65,8 @@ pub(crate) trait Proof {
         ensures { shown_meaning result ≡ shown (witness_meaning Self.Exponent.Exponent.value read_meaning witness) };
 }
 
-// That the product of the outputs is that of the inputs re-encrypted.
+// That the product of the outputs is that of the inputs re-encrypted. The two proofs have the same fields and are two types,
+// since the type says which of the two equations is asked.
 #[derive(Drop)]
 pub(crate) struct EquivalenceProof<'a, G: Group> {
     pub g: &'a G,

@@ -14,7 +14,8 @@ fn drawn_among<X: Exponent, T: Copy>(z: X::Posted, witnesses: &[Witness<X::Poste
     witnesses.iter().any(|witness| X::same_posted(z, witness.z))
 }
 
-// Refuses the first witness that has the z of an earlier one.
+// Refuses the first witness that has the z of an earlier one. The places are those of the whole list of witnesses, of which
+// these are a part, and a slice does not tell where in a list it lies.
 pub(crate) fn check_draws<X: Exponent, T: Copy>(
     witnesses: &[Witness<X::Posted, T>],
     start: usize,
@@ -32,7 +33,8 @@ pub(crate) fn check_draws<X: Exponent, T: Copy>(
     Ok(())
 }
 
-// Whether a challenge has no more bits than it may.
+// Whether a challenge has no more bits than it may. `group::read_challenge` compares so too, one line in each: that one
+// refuses at a place, and a witness refuses all its numbers at one place, after each was looked at.
 fn fits<X: Exponent>(challenge: u64) -> bool
     ensures { result ≡ challenge_fits X.Exponent.exponents challenge }
 {

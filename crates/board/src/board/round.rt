@@ -16,7 +16,7 @@ use group::Group;
 use plan::Plan;
 use refusal::{Reason, Refusal};
 
-// Whether an element is the one.
+// Whether an element is the one: the group tells, since elements that differ may mean one point.
 fn is_one<G: Group>(group: &G, element: G::Element) -> bool
     ensures { result ≡ same_point G.Group.operations (G.Group.point element) G.Group.operations.one }
 {

@@ -54,7 +54,9 @@ impl<'a, E: Copy> Board<'a, E> {
     }
 }
 
-// What an honest server posts on a comparator within the wires, under a setting and with six secret words.
+// What an honest server posts on a comparator within the wires, under a setting and with six secret words. Words and buffer
+// stand beside each other in what serves, and in no struct: they are two lists that the caller lends, and each is cleared and
+// told of in the contract by itself.
 pub(crate) fn prove_on<G: Group, P: Plan, S: Source>(
     board: &Board<'_, G::Element>,
     setup: &Setup<'_, G, P, S>,

@@ -52,15 +52,9 @@ fn six_words(words: &[u64], k: usize) -> [u64; 6]
     requires { 6 * k + 6 ≤ length words.now }
     ensures { result ≡ take 6 (drop (6 * k) words.now) }
 {
-    let at = 6 * k;
-    [
-        words[at],
-        words[at + 1],
-        words[at + 2],
-        words[at + 3],
-        words[at + 4],
-        words[at + 5],
-    ]
+    let mut six = [0; 6];
+    six.copy_from_slice(&words[6 * k..6 * k + 6]);
+    six
 }
 
 // Makes the honest step on each comparator, from comparator 0 on.
@@ -111,10 +105,7 @@ fn lengths_fit<G: Group, P: Plan>(
 fn is_at_start<E>(board: &Board<'_, E>, wires: usize) -> bool
     ensures { result ≡ both (is_turning board.now.stage) (both (board.now.next == 0) (length board.now.wires.now == wires)) }
 {
-    match board.stage {
-        Stage::Turning => board.next == 0 && board.wires.len() == wires,
-        Stage::Gathering | Stage::Finished => false,
-    }
+    board.stage == Stage::Turning && board.next == 0 && board.wires.len() == wires
 }
 
 // Whether the source reaches through a server's turn.
