@@ -1,4 +1,3 @@
-mod Stopping
 mod Happening
 mod Lengths
 mod Passing
