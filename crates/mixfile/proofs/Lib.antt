@@ -1,3 +1,2 @@
 mod Happening
 mod Lengths
-mod Passing
