@@ -1,4 +1,2 @@
-mod Stopping
 mod Happening
 mod Lengths
-mod Passing

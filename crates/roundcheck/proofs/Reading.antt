@@ -4,11 +4,8 @@ use Rattle.refusal.specs.Table.{refused_at}
 use Rattle.refusal.specs.declared.Reason.TheVariants.{MisplacedRecord}
 use Rattle.refusal.specs.declared.Refusal.{Refusal}
 use Rattle.roundfile.specs.Reading.{Place, Found, Step, gave, ended, refused, answer, left, found}
-use Rattle.roundfile.specs.Records.{content}
 use Rattle.roundfile.specs.declared.reader.Entry.{Entry}
-use Rattle.roundfile.specs.declared.record.Record.{Record}
-use Rattle.roundfile.specs.declared.record.Record.TheVariants.{Opening, Draws, Post, Comparator, Close, Expel}
-use Rattle.roundcheck.specs.Checks.{NoneGiven, opening_in, next_opening, draws_in, next_draws}
+use Rattle.roundcheck.specs.Checks.{NoneGiven, next_opening, next_draws}
 use Rattle.roundcheck.specs.Runs.{found_in}
 
 pub gave_by : (s : Step) (p q : Place) (f : Found) → Ok (Some f) ≡ answer s → q ≡ left p s → s ≡ gave f q
@@ -44,19 +41,3 @@ pub none_for_draws : (s : Step) (r : Refusal) → NoneGiven s r → next_draws s
 none_for_draws (gave f q) r h = absurd h
 none_for_draws ended r h = ap Err (sym h)
 none_for_draws (refused e) r h = ap Err (sym h)
-
-pub no_opening : (f : Found) (q : Place) (held : Record) → ((x : _) → held ≡ Opening x → ⊥) → opening_in f q (content held) ≡ Err (refused_at MisplacedRecord f.offset)
-no_opening f q (Opening x) apart = absurd (apart x refl)
-no_opening f q (Draws x) apart = refl
-no_opening f q (Post x) apart = refl
-no_opening f q (Comparator x) apart = refl
-no_opening f q Close apart = refl
-no_opening f q Expel apart = refl
-
-pub no_draws : (f : Found) (q : Place) (held : Record) → ((x : _) → held ≡ Draws x → ⊥) → draws_in f q (content held) ≡ Err (refused_at MisplacedRecord f.offset)
-no_draws f q (Opening x) apart = refl
-no_draws f q (Draws x) apart = absurd (apart x refl)
-no_draws f q (Post x) apart = refl
-no_draws f q (Comparator x) apart = refl
-no_draws f q Close apart = refl
-no_draws f q Expel apart = refl
