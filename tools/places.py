@@ -33,8 +33,9 @@ PATTERNS = {
         ("a place in a buffer beside it", r"^\s*(start|at|first|end): usize,|, (start|at): usize"),
     ],
     "7": [
-        ("a switch on a kind that calls one function at each", r"^\s*(\w+::)?(ResiduesModulo23|BinaryPolynomials|Chain|Butterfly) => (match|check|mix|\{)"
-                                                               r"|^\s*[12] => (answer|print|match|\{)|if listing"),
+        ("a switch on a kind that calls one function at each",
+         r"^\s*(Ok\()?(\w+::)?(ResiduesModulo23|BinaryPolynomials|Chain|Butterfly)(\(\w+\))?\)? => .*[({]"
+         r"|^\s*[12] => (answer|print|match|\{)|if listing"),
     ],
 }
 
@@ -65,18 +66,21 @@ def enums_of_two():
 
 
 def parameter_groups():
-    """Groups of three or more parameters that stand together in the signatures of three or more functions of a crate."""
-    seen = {}
+    """Sets of three or more parameters that stand together in the signatures of three or more functions of a crate."""
+    signatures = {}
     for path in sources():
         text = "\n".join(line for _, line in code(path))
         for found in re.finditer(r"\bfn (\w+)[^(]*?(?:<[^(]*>)?\(([^)]*)\)", text):
-            names = re.findall(r"(?:^|,)\s*(?:mut )?(\w+):", found.group(2))
-            names = [n for n in names if n != "self"]
-            for group in (("g", "source", "buffer", "place"), ("board", "group", "plan", "source"), ("heap", "group", "plan"),
-                          ("opening", "offset", "reader"), ("entries", "inverse"), ("turn", "words"), ("levels",), ("w", "w1", "w2"),
-                          ("settings", "start"), ("g", "comparison", "z")):
-                if all(n in names for n in group):
-                    seen.setdefault(group, []).append(f"{path.split('/')[1]}::{found.group(1)}")
+            names = frozenset(re.findall(r"(?:^|,)\s*(?:mut )?([a-z_]\w*):", found.group(2))) - {"self"}
+            signatures.setdefault(path.split("/")[1], []).append((found.group(1), names))
+    seen = {}
+    for crate, functions in signatures.items():
+        shared = {a & b for _, a in functions for _, b in functions if len(a & b) >= 3}
+        held = {names: [name for name, all_names in functions if names <= all_names] for names in shared}
+        for names, by in held.items():
+            larger = any(names < others and held[others] == by for others in held)
+            if len(by) >= 3 and not larger:
+                seen[(crate, *sorted(names))] = by
     return seen
 
 
@@ -105,7 +109,7 @@ def main():
             for path, number, line in places:
                 print(f"{path}:{number}: {line[:110]}")
     if not wanted or "5" in wanted:
-        groups = {group: functions for group, functions in parameter_groups().items() if len(functions) >= 3}
+        groups = parameter_groups()
         print(f"== point 5: parameters that travel together: {len(groups)} groups, {sum(map(len, groups.values()))} functions")
         for group, functions in groups.items():
             print(f"({', '.join(group)}): {len(functions)}: {' '.join(functions)}")
