@@ -18,7 +18,8 @@ pub const CHALLENGE_BITS: u32 = 12;
 // The number of t^13 + t^4 + t^3 + t + 1.
 const MODULUS: u32 = 8219;
 
-// A polynomial times t: where t^13 comes up, the modulus is taken off.
+// A polynomial times t: where t^13 comes up, the modulus is taken off. That a number has no bit above t^12 stands as a clause
+// here and below, and in no type: `Polynomial` is of what is not zero, and a second type for what may be is no plainer.
 fn multiply_by_t(a: u32) -> u32
     requires { a < 8192 }
     ensures { result ≡ times_t a }

@@ -18,7 +18,8 @@ struct Line {
     sealing: Sealing,
 }
 
-// The next word as a number of 32 bits.
+// The next word as a number of 32 bits. It is a line that the drill's program has too, for words of any type: a crate for
+// this line alone is no plainer.
 fn next_number(words: &mut SplitWhitespace<'_>) -> Option<u32> {
     words.next()?.parse::<u32>().ok()
 }

@@ -61,6 +61,7 @@ fn route_line(heap: Global, numbers: &[usize]) -> Result<Answer, Failure> {
     route_on(heap, &plan, entries)
 }
 
+// The numbers of a line. The program that serves a turn has these lines too: a crate for them alone is no plainer.
 fn numbers_of(heap: Global, line: &str) -> anyhow::Result<Vec<usize>> {
     line.split_whitespace()
         .map(|word| Ok(word.parse::<usize>()?))

@@ -14,7 +14,8 @@ use std::alloc::Global;
 use std::fmt;
 use turn::{Round, serve_on};
 
-// Serves on the plan of this number, and prints what the wires open to.
+// Serves on the plan of this number, and prints what the wires open to. Group, plan and round are no one struct: the plan is
+// a number here, and a plan in what this calls.
 fn answer_in<G: Group>(rt: &HostRuntime, group: &G, plan: u64, round: Round) -> anyhow::Result<()>
 where
     G::Element: fmt::Display,
@@ -33,6 +34,7 @@ where
     Ok(())
 }
 
+// The numbers of a line.
 fn numbers_of(heap: Global, line: &str) -> anyhow::Result<Vec<u64>> {
     line.split_whitespace()
         .map(|word| Ok(word.parse::<u64>()?))
