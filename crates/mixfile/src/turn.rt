@@ -86,7 +86,8 @@ fn judge_turn<P: Plan>(
         .map_err(|refusal| refusal.reason)
 }
 
-// Makes the honest step on the comparator that is next, and lets the board take it.
+// Makes the honest step on the comparator that is next, and lets the board take it. Board, words and buffer are no one struct,
+// here and below: each is lent anew for each step, and the contracts say of each by itself what it is afterwards.
 fn take_step<G: Group, P: Plan, S: Source>(
     board: &mut Board<'_, G::Element>,
     setup: &Setup<'_, G, P, S>,

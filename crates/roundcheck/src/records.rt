@@ -67,7 +67,8 @@ where
     Ok(line_of(record, taken))
 }
 
-// Runs the records from the reader's place on, and adds a line for each that is taken.
+// Runs the records from the reader's place on, and adds a line for each that is taken. Board and lines are no one struct, here
+// and in what calls this: both are lent, and the contracts say of each by itself what it is afterwards.
 fn run_records<G: Group, P: Plan, S: Source>(
     board: &mut Board<'_, G::Element>,
     setup: &Setup<'_, G, P, S>,

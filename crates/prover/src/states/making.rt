@@ -59,7 +59,8 @@ pub fn make_outputs<G: Group>(
 
 // Draws a word for each proof of a comparator whose four questions begin at `first`: the two on which a z depends, or
 // with the offset 1 the two on which a challenge does. The offset is a number and names no kind: it is added to the numbers
-// of the questions.
+// of the questions. Here and below a buffer stands beside the challenger, and in no struct with it: it is lent anew for each
+// draw, and the contracts say of it by itself what it is afterwards.
 fn draw_both<G: Group, S: Source>(
     challenger: &Challenger<'_, G, S>,
     comparison: Comparison<G::Element>,
