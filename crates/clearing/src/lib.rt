@@ -28,8 +28,8 @@ impl Zero for u64 {
     }
 }
 
-// Writes zero into each place. Not by the slice's `fill`: it requires that a copy cannot fail, which is not known of any
-// `T: Copy`, so that the proof of that call does not close.
+// Writes zero into each place. Not by the slice's `fill`: it requires that a clone cannot fail, which is not known of
+// every `T: Copy`, so that the proof of that call does not close.
 pub fn clear<T: Zero>(places: &mut [T])
     ensures { places.new ≡ zeros T.Zero.zero places.old }
 {

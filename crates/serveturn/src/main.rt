@@ -15,7 +15,7 @@ use std::fmt;
 use turn::{Round, serve_on};
 
 // Serves on the plan of this number, and prints what the wires open to. Group, plan and round are no one struct: the plan is
-// a number here, and a plan in what this calls.
+// a number here, and a plan where the lists are lent.
 fn answer_in<G: Group>(rt: &HostRuntime, group: &G, plan: u64, round: Round) -> anyhow::Result<()>
 where
     G::Element: fmt::Display,

@@ -34,7 +34,7 @@ pub(crate) fn check_draws<X: Exponent, T: Copy>(
 }
 
 // Whether a challenge has no more bits than it may. `group::read_challenge` compares so too, one line in each: that one
-// refuses at a place, and a witness refuses all its numbers at one place, after each was looked at.
+// refuses at a place, and here the place of a witness is named by what reads it whole.
 fn fits<X: Exponent>(challenge: u64) -> bool
     ensures { result ≡ challenge_fits X.Exponent.exponents challenge }
 {
