@@ -21,6 +21,7 @@ pub struct Board<'a, E> {
     wires: &'a mut [Ciphertext<E>],
     start: &'a mut [Ciphertext<E>],
     servers: usize,
+    // no enum with fields: a refusal tells the next comparator at every stage
     stage: Stage,
     posted: usize,
     completed: usize,

@@ -6,8 +6,8 @@ use super::Board;
 use crate::events::Stage;
 use elgamal::Ciphertext;
 
-// The same item in each place. Not by the slice's `fill`: it requires that a copy cannot fail, which is not known of any
-// `T: Copy`, so that the proof of that call does not close.
+// The same item in each place. Not by the slice's `fill`: it requires that a clone cannot fail, which is not known of
+// every `T: Copy`, so that the proof of that call does not close.
 pub(crate) fn fill<T: Copy>(list: &mut [T], item: T)
     ensures { list.new ≡ replicate (length list.old) item }
 {
