@@ -1,7 +1,9 @@
 -- How a refusal is printed: `refused NUMBER STATION PLACE`.
-use Rattle.std.specs.Prelude.{ℕ, List, ◌++◌, codes, decimal}
+use Rattle.std.specs.Prelude.{ℕ, List, Option, Some, None, ◌++◌, codes, decimal}
 use Rattle.refusal.specs.Table.{number_of, station_of}
 use Rattle.refusal.specs.declared.Refusal.{Refusal}
+use Rattle.refusal.specs.declared.failure.Failure.{Failure}
+use Rattle.refusal.specs.declared.failure.Failure.TheVariants.{Refused, NoMemory}
 use Rattle.refusal.specs.declared.Station.{Station}
 use Rattle.refusal.specs.declared.Station.TheVariants.{File, Opening, Group, Board, Source, Proof, Drill}
 
@@ -16,3 +18,8 @@ station_text Drill = codes "drill"
 
 abbrev pub refusal_text : Refusal → List ℕ
 refusal_text r = codes "refused " ++ (decimal (number_of r.reason) ++ (codes " " ++ (station_text (station_of r.reason) ++ (codes " " ++ decimal r.place))))
+
+-- A failure prints as the refusal that it holds; of want of memory nothing is said.
+abbrev pub failure_text : Failure → Option (List ℕ)
+failure_text (Refused r) = Some (refusal_text r)
+failure_text (NoMemory e) = None

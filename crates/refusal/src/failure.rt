@@ -1,5 +1,6 @@
 // Why a call that needs memory has no answer.
 ghost use Rattle.std.specs.Prelude.{◌≡◌, alloc_error};
+ghost use Rattle.refusal.specs.Text.{failure_text};
 ghost use Rattle.refusal.specs.declared.failure.Failure.TheVariants.{Refused, NoMemory};
 
 use crate::Refusal;
@@ -39,6 +40,8 @@ impl<T: Drop> From<AllocFailed<T>> for Failure {
 }
 
 impl fmt::Display for Failure {
+    ghost output = { failure_text };
+
     fn fmt<W: fmt::Write>(&self, f: &mut fmt::Formatter<W>) -> fmt::Result {
         match self {
             Failure::Refused(refusal) => write!(f, "{refusal}"),
