@@ -24,11 +24,10 @@ pub fn mix_file<'a>(
     ensures cleared { words.new ≡ zeros 0 words.old }
 {
     let words = Clearing { places: words };
-    let mut lines = Vec::new(heap);
     let turn = Turn {
         file,
         permutation,
         words: words.places,
     };
-    finish_file(heap, file, &mut lines, turn)
+    Ok(finish_file(heap, file, Vec::new(heap), turn)?.ending?)
 }

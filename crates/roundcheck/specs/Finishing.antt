@@ -35,6 +35,12 @@ IfRefused (NoMemory e) P = Unit {0}
 abbrev pub EndsBy : Result Standing Failure → (Ending → Type 0) → Type 0
 EndsBy r P = MatchResult r (λ s. P (Ok s)) (λ e. IfRefused e (λ f. P (Err f)))
 
+-- what was come to is this ending; want of memory is none
+abbrev pub ComesTo : {Answer : Type 0} → Result Answer Failure → Result Answer Refusal → Type 0
+ComesTo (Ok a) ending = ending ≡ Ok a
+ComesTo (Err (Refused f)) ending = ending ≡ Err f
+ComesTo (Err (NoMemory e)) ending = ⊥
+
 -- Checked says which lines and which ending come of what is checked, and Planned over how many wires and with which
 -- comparators. Answers and Refuses say what is done at the file's end.
 module _ {Answer : Type 0} (Checked : List Line → Ending → Type 0) (Planned : ℕ → List Comparator → Type 0)
@@ -51,3 +57,7 @@ module _ {Answer : Type 0} (Checked : List Line → Ending → Type 0) (Planned 
 
   abbrev pub FinishedBy : Result Answer Failure → Type 0
   FinishedBy r = MatchResult r AnsweredBy (λ e. IfRefused e RefusedBy)
+
+  -- the same of an ending, where memory was not wanting
+  abbrev pub EndedBy : Result Answer Refusal → Type 0
+  EndedBy r = MatchResult r AnsweredBy RefusedBy

@@ -5,18 +5,11 @@ ghost use Rattle.roundcheck.specs.Checks.{Checks};
 use crate::finish::Judge;
 use crate::report::Report;
 use crate::round::finish_file;
-use refusal::Failure;
 use std::alloc::{AllocError, Global};
 
 // Runs a file's records on a board: a line for each that is taken, and the verdict or the refusal.
 pub fn check_file(heap: Global, file: &[u8]) -> Result<Report, AllocError>
     ensures { IfOk result (λ report. Checks file.now report.lines.items report.ending) }
 {
-    let mut lines = Vec::new(heap);
-    let ending = match finish_file(heap, file, &mut lines, Judge) {
-        Ok(standing) => Ok(standing),
-        Err(Failure::Refused(refusal)) => Err(refusal),
-        Err(Failure::NoMemory(error)) => return Err(error),
-    };
-    Ok(Report { lines, ending })
+    finish_file(heap, file, Vec::new(heap), Judge)
 }

@@ -1,5 +1,5 @@
 // The records of a round, run on a board.
-ghost use Rattle.std.specs.Prelude.{◌≡◌, ◌*◌, length};
+ghost use Rattle.std.specs.Prelude.{◌≡◌, ◌*◌, length, IfOk};
 ghost use Rattle.board.specs.Calls.{terms};
 ghost use Rattle.board.specs.States.{view, state_map};
 ghost use Rattle.elgamal.specs.Ciphertexts.{meaning};
@@ -9,7 +9,7 @@ ghost use Rattle.roundcheck.specs.Finishing.{Behind, EndsBy};
 ghost use Rattle.roundcheck.specs.Runs.{post_in, line_of, found_in, Judges, Runs};
 
 use crate::events::{call_of, read_event};
-use crate::report::Line;
+use crate::report::{Line, Report};
 use board::board::Board;
 use board::board::call::call;
 use board::events::Taken;
@@ -23,7 +23,7 @@ use roundfile::parts::Post;
 use roundfile::reader::{Entry, Reader};
 use roundfile::record::Record;
 use source::Source;
-use std::alloc::Global;
+use std::alloc::{AllocError, Global};
 
 // The codes that a post has; 1 and 1 in any other record.
 fn post_in(held: Record) -> Post
@@ -89,7 +89,7 @@ where
 }
 
 // The same, with a posting buffer of its own.
-pub fn run_round<G: Group, P: Plan, S: Source>(
+pub(crate) fn run_behind<G: Group, P: Plan, S: Source>(
     heap: Global,
     board: &mut Board<'_, G::Element>,
     setup: &Setup<'_, G, P, S>,
@@ -102,4 +102,21 @@ where
 {
     let mut buffer = vec![in heap; 0u8; 11 * G::WIDTH]?;
     run_records(board, setup, reader, buffer.as_mut_slice(), lines)
+}
+
+// A report of the records from the reader's place on, behind the lines before them. A record that is refused is no refusal of
+// this call: it is the report's ending, and the board stands as the records before it left it.
+pub fn run_round<G: Group, P: Plan, S: Source>(
+    heap: Global,
+    board: &mut Board<'_, G::Element>,
+    setup: &Setup<'_, G, P, S>,
+    reader: Reader,
+    mut lines: Vec<Line>,
+) -> Result<Report, AllocError>
+where
+    G::Exponent: Exponent<Posted = u32>,
+    ensures { IfOk result (λ report. Behind lines.items (Runs (terms G.Group.operations G.Exponent.Exponent.exponents (S.Source.words setup.now.source.now) (G.Group.point board.old.key) (P.Plan.listing setup.now.plan.now)) G.Exponent.Exponent.number (place reader.entry) (state_map (meaning G.Group.point) (view board.old))) report.lines.items report.ending) }
+{
+    let ended = run_behind(heap, board, setup, reader, &mut lines);
+    Report::of(lines, ended)
 }

@@ -1,12 +1,13 @@
 // What the check of a file answers: a line for each record that was taken, and how it ended.
 ghost use Rattle.std.specs.Prelude.{◌≡◌, IfOk, Some, string_bytes};
-ghost use Rattle.roundcheck.specs.Texts.{line_text, verdict_text, standing_text, report_text};
+ghost use Rattle.roundcheck.specs.Finishing.{ComesTo};
+ghost use Rattle.roundcheck.specs.Texts.{line_text, verdict_text, ending_text, report_text};
 
 use board::verdict::{Standing, Verdict};
 use plan::Comparator;
-use refusal::Refusal;
+use refusal::{Failure, Refusal};
 use roundfile::parts::{Opening, Post};
-use std::alloc::Global;
+use std::alloc::{AllocError, Global};
 use std::fmt;
 
 #[derive(Clone, Copy)]
@@ -21,14 +22,31 @@ pub enum Line {
     Expel(usize),
 }
 
+// What comes of a file: its lines, and what is answered at its end, or the refusal.
 #[derive(Drop)]
-pub struct Report {
+pub struct Finished<A> {
     pub lines: Vec<Line>,
-    // how the round stands where the file was read to its end, or the refusal
-    pub ending: Result<Standing, Refusal>,
+    pub ending: Result<A, Refusal>,
 }
 
-impl Report {
+// What comes of a file that is checked: at its end it is answered how the round stands.
+pub type Report = Finished<Standing>;
+
+impl<A> Finished<A> {
+    // These lines, and the ending that was come to.
+    pub(crate) fn of(lines: Vec<Line>, ended: Result<A, Failure>) -> Result<Finished<A>, AllocError>
+        ensures { IfOk result (λ finished. (finished.lines.items ≡ lines.items) × ComesTo ended finished.ending) }
+    {
+        let ending = match ended {
+            Ok(answer) => Ok(answer),
+            Err(Failure::Refused(refusal)) => Err(refusal),
+            Err(Failure::NoMemory(error)) => return Err(error),
+        };
+        Ok(Finished { lines, ending })
+    }
+}
+
+impl Finished<Standing> {
     // All that is printed of a round: its lines, and then its ending.
     pub fn text(&self, heap: Global) -> Result<String, fmt::Error>
         ensures { IfOk result (λ text. string_bytes text ≡ report_text self.now.lines.items self.now.ending) }
@@ -37,10 +55,7 @@ impl Report {
         for line in self.lines.as_slice() {
             text.writeln(*line)?;
         }
-        match self.ending {
-            Ok(standing) => text.writeln(Judged(standing))?,
-            Err(refusal) => text.writeln(refusal)?,
-        }
+        text.writeln(Ending(self.ending))?;
         Ok(text)
     }
 }
@@ -85,20 +100,25 @@ fn word_of(verdict: Verdict) -> &'static str
     }
 }
 
-// The last line of a file that was read to its end.
+// A report's ending as it prints: the last line of a round.
 #[derive(Clone, Copy)]
-struct Judged(Standing);
+pub struct Ending(pub Result<Standing, Refusal>);
 
-impl fmt::Display for Judged {
-    ghost output = { λ x. Some (standing_text x.0) };
+impl fmt::Display for Ending {
+    ghost output = { λ x. Some (ending_text x.0) };
 
     fn fmt<W: fmt::Write>(&self, f: &mut fmt::Formatter<W>) -> fmt::Result {
-        let Standing {
-            verdict,
-            completed,
-            servers,
-        } = self.0;
-        let word = word_of(verdict);
-        write!(f, "{word} {completed} {servers}")
+        match self.0 {
+            Ok(standing) => {
+                let Standing {
+                    verdict,
+                    completed,
+                    servers,
+                } = standing;
+                let word = word_of(verdict);
+                write!(f, "{word} {completed} {servers}")
+            }
+            Err(refusal) => write!(f, "{refusal}"),
+        }
     }
 }

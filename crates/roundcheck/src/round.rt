@@ -6,11 +6,11 @@ ghost use Rattle.elgamal.specs.Ciphertexts.{meaning};
 ghost use Rattle.kinds.specs.Kinds.{plan_kind};
 ghost use Rattle.roundfile.specs.Reading.{place, step};
 ghost use Rattle.roundcheck.specs.Checks.{Checks, ChecksFirst, ChecksRound, ChecksPlan, KeyRead, KeyUnread, next_draws};
-ghost use Rattle.roundcheck.specs.Finishing.{OpeningPlan, FilePlan, Behind, FinishedBy};
+ghost use Rattle.roundcheck.specs.Finishing.{OpeningPlan, FilePlan, Behind, FinishedBy, EndedBy};
 
 use crate::finish::Finish;
-use crate::records::run_round;
-use crate::report::Line;
+use crate::records::run_behind;
+use crate::report::{Finished, Line};
 use crate::wanted::{next_draws, next_opening, words_of};
 use board::board::Board;
 use board::board::round::{open, servers_fit};
@@ -68,7 +68,7 @@ where
         plan,
         source: &source,
     };
-    let standing = run_round(heap, board, &setup, reader, lines)?;
+    let standing = run_behind(heap, board, &setup, reader, lines)?;
     end.finish(heap, board, &setup, lines.as_slice(), standing)
 }
 
@@ -160,7 +160,7 @@ impl<'a> OpenedFile<'a> {
 }
 
 // Runs a file's records on a board, adds a line for each that is taken, and does at the end what is to be done there.
-pub fn finish_file<F: Finish>(
+fn finish_behind<F: Finish>(
     heap: Global,
     file: &[u8],
     lines: &mut Vec<Line>,
@@ -180,4 +180,18 @@ pub fn finish_file<F: Finish>(
         GroupKind::ResiduesModulo23 => opened.finish_in(heap, &RESIDUES_MODULO_23, lines, end),
         GroupKind::BinaryPolynomials => opened.finish_in(heap, &Polynomials, lines, end),
     }
+}
+
+// What comes of a file, behind the lines before it: its records run on a board, and at its end done what is to be done there. A
+// file that is refused is no refusal of this call: that is the ending, behind the lines of the records that were taken.
+pub fn finish_file<F: Finish>(
+    heap: Global,
+    file: &[u8],
+    mut lines: Vec<Line>,
+    end: F,
+) -> Result<Finished<F::Answer>, AllocError>
+    ensures { IfOk result (λ finished. EndedBy (Behind lines.items (Checks file.now)) (FilePlan file.now) (F.answers end) (F.refuses end) finished.lines.items finished.ending) }
+{
+    let ended = finish_behind(heap, file, &mut lines, end);
+    Finished::of(lines, ended)
 }

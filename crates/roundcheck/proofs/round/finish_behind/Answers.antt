@@ -3,7 +3,7 @@ use Rattle.roundfile.specs.Reading.{place}
 use Rattle.kinds.specs.declared.GroupKind.TheVariants.{ResiduesModulo23, BinaryPolynomials}
 use Rattle.roundcheck.proofs.Failing.{mapped_ok}
 use Rattle.roundcheck.proofs.Openings.{finished_whole}
-use Rattle.roundcheck.proofs.round.finish_file.Goals as goal
+use Rattle.roundcheck.proofs.round.finish_behind.Goals as goal
 
 pub returns-in-ResiduesModulo23 : goal.returns-in-ResiduesModulo23
 returns-in-ResiduesModulo23 g c =
