@@ -10,6 +10,7 @@ use plan::{Plan, Setting, run_plan};
 use refusal::{Failure, Reason};
 use std::alloc::{AllocError, Global};
 use std::fmt;
+use std::fmt::Display;
 
 // A route and what it brings about.
 #[derive(Drop)]
@@ -22,8 +23,9 @@ impl fmt::Display for Answer {
     fn fmt<W: fmt::Write>(&self, f: &mut fmt::Formatter<W>) -> fmt::Result {
         write!(f, "settings")?;
         for setting in self.settings.as_slice() {
-            let number = u8::from(*setting);
-            write!(f, " {number}")?;
+            // by its parts: a `write!` keeps and puts back the formatter's options, which took longer than the number itself
+            f.write_str(" ")?;
+            u8::from(*setting).fmt(f)?;
         }
         write!(f, " brings")?;
         for wire in self.brought.as_slice() {
