@@ -20,7 +20,7 @@ pub enum PlanKind {
     Butterfly,
 }
 
-// A number of any width, since the programs read wider ones than a file has.
+// A number of 64 bits, since most programs read wider ones than a file has.
 impl TryFrom<u64> for GroupKind {
     type Error = Reason;
 

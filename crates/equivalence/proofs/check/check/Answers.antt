@@ -1,4 +1,4 @@
-use Rattle.std.proofs.Common.{◌≡◌, true, length, sym, ◌∙◌, rules}
+use Rattle.std.proofs.Common.{◌≡◌, true, length, rules}
 use Rattle.posting.specs.Comparison.{comparison_meaning}
 use Rattle.posting.specs.Drawing.{buffer_fits}
 use Rattle.equivalence.proofs.Exactness.{judged_holds, holds_judged, answered_ok, ok_answered}
@@ -14,7 +14,7 @@ returns g c =
     let p = proofs_meaning g.G.Group.point g.G.Exponent.Exponent.number c.args.proofs in
     let within = c.check_within.ensures in
     let judged = judge g.G.Group.operations E S k p c.args.first in
-    let fits : buffer_fits g.G.Group.operations (length c.args.buffer.now) ≡ true = sym c.buffer_fits.ensures ∙ c.if-not-buffer_fits.false in
+    let fits : buffer_fits g.G.Group.operations (length c.args.buffer.now) ≡ true = search rules in
     record {
       verdict = rw fits within;
       exact = (
