@@ -142,9 +142,9 @@ pub fn examine<G: Group>(
     let branch_proof = DisjunctiveProof { g, comparison };
     check_witnesses(&product_proof, equivalence, 0)?;
     check_witnesses(&branch_proof, disjunction, 3)?;
-    // No witness is refused: each shows a sample, and of five one branch has three. They are read once more,
-    // since no memory is allocated; an ArrayVec of what was read would be filled in one pass and picked from in a second,
-    // which is no plainer.
+    // No witness is refused: each shows a sample, and of five one branch has three. They are read again, those of the
+    // branches once for each branch that is tried, since no memory is allocated; an ArrayVec of what was read would be
+    // filled in one pass and picked from in a second, which is no plainer.
     let product = product_samples(&product_proof, equivalence).unwrap();
     let branch = choose_branch(&branch_proof, disjunction).unwrap();
     Ok(Examination { product, branch })
